@@ -1,0 +1,7 @@
+mod Example
+mod Sizes
+mod Mentions
+mod Orderly
+mod Read
+mod Grown
+pub mod Least

@@ -1,0 +1,6 @@
+pub mod Distinct
+pub mod Lookup
+pub mod SoundParts
+pub mod Grouping
+pub mod AtNodes
+pub mod SmallGrid

@@ -1,0 +1,11 @@
+pub mod Padding
+pub mod Name
+pub mod Names
+pub mod Parts
+pub mod Places
+pub mod Network
+pub mod Sound
+pub mod Groups
+pub mod Indexed
+pub mod GridInside
+pub mod Laws

@@ -1,0 +1,12 @@
+use Rattle.std.proofs.Common.{ap, refl, ◌∙◌, ℕ}
+use Rattle.std.specs.Prelude.{replicate, false}
+use Rattle.outage_cli.proofs.TallyLaws.{tallies_none}
+use Rattle.outage_cli.proofs.tally.Tally.new.Goals as goal
+
+pub returns : goal.returns
+returns c =
+    tallies_none c.args.grid.now _ c.meters.ensures.sound
+    (c.in_ok-vec.ensures.items_if_clones_equal (λ y e. e) ∙ ap (λ n. replicate n false) c.meters.ensures.count)
+    (c.in_ok-vec-2.ensures.items_if_clones_equal (λ y e. e) ∙ ap (λ (n : ℕ). replicate {A = ℕ} n 0) c.nodes-nodes.ensures.count)
+    (c.in_ok-vec-3.ensures.items_if_clones_equal (λ y e. e) ∙ ap (λ (n : ℕ). replicate {A = ℕ} n 0) c.nodes-nodes.ensures.count)
+    refl

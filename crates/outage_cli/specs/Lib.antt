@@ -1,0 +1,13 @@
+pub mod Draft
+pub mod FieldsLeft
+pub mod Form
+pub mod GridReader
+pub mod LineEnds
+pub mod Number
+pub mod Places
+pub mod RowFields
+pub mod RowSorts
+pub mod Run
+pub mod StampMarks
+pub mod Tallied
+pub mod Whole

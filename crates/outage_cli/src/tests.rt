@@ -1,0 +1,163 @@
+//! Worked runs over files and an output in memory.
+use crate::{GridRule, Status, outage_main};
+use outage_ports::{MemoryShelf, MemorySink, Mishap};
+use std::alloc::{AllocError, Global};
+use std::process::Abort;
+use std::test::Fail;
+
+const NET: &str = "source,S\ndevice,B1,breaker,S,A,closed,-\ndevice,F1,fuse,A,C,closed,-\n\
+device,T1,transformer,A,D,closed,-\ndevice,T2,transformer,A,E,closed,-\n\
+meter,M1,C,10\nmeter,M2,C,20\nmeter,M3,D,5\nmeter,M4,E,5\n";
+
+const CALLS: &str = "2024-03-01T10:00:00Z,call,M1\n2024-03-01T10:01:00Z,call,M2\n";
+
+// A network, its events, and what a replay of them answers and writes.
+#[derive(Drop)]
+struct Case {
+    net: &'static str,
+    events: &'static str,
+    status: Status,
+    written: &'static str,
+}
+
+fn file(alloc: Global, name: &str, text: &str) -> Result<(String, Vec<u8>), AllocError> {
+    Ok((
+        String::from_str(alloc, name)?,
+        text.as_bytes().to_vec(alloc)?,
+    ))
+}
+
+fn words(alloc: Global, texts: &[&str]) -> Result<Vec<String>, AllocError> {
+    let mut all = Vec::new(alloc);
+    for text in texts {
+        all.push(String::from_str(alloc, text)?)?;
+    }
+    Ok(all)
+}
+
+fn shelf(alloc: Global, net: &str, events: &str) -> Result<MemoryShelf, AllocError> {
+    let mut files = Vec::new(alloc);
+    files.push(file(alloc, "n", net)?)?;
+    files.push(file(alloc, "e", events)?)?;
+    Ok(MemoryShelf::new(files, Vec::new(alloc), 5))
+}
+
+fn run_case(rt: &impl Abort, alloc: Global, case: &Case) -> Result<(), AllocError> {
+    let mut files = shelf(alloc, case.net, case.events)?;
+    let mut out = MemorySink::new(alloc, Vec::new(alloc), 7, 200)?;
+    let given = words(alloc, &["outage", "replay", "n", "e"])?;
+    let status = outage_main(alloc, &given, &mut files, &mut out);
+    assert_eq!(rt; status, case.status);
+    assert_eq!(rt; out.bytes(), case.written.as_bytes());
+    Ok(())
+}
+
+#[test]
+fn replays(rt: HostRuntime) -> Result<(), Fail> {
+    let alloc = rt.alloc();
+    let refused = Status::NetworkRefused {
+        line: 1,
+        rule: GridRule::NotInOrder,
+    };
+    let cases = [
+        Case {
+            net: NET,
+            events: CALLS,
+            status: Status::Done,
+            written: "cost,1,30\ncost,2,40\ntotal,40\nend\n",
+        },
+        Case {
+            net: NET,
+            events: "2024-03-01T10:00:00Z,gasp,M1\n",
+            status: Status::Done,
+            written: "refused,1,NotBuilt\ntotal,0\nend\n",
+        },
+        Case {
+            net: NET,
+            events: "2024-03-01T10:00:00Z,call,M9\n",
+            status: Status::Done,
+            written: "refused,1,UnknownMeter\ntotal,0\nend\n",
+        },
+        Case {
+            net: "device,B1,breaker,S,A,closed,-\n",
+            events: CALLS,
+            status: refused,
+            written: "",
+        },
+    ];
+    for case in &cases {
+        run_case(&rt, alloc, case)?;
+    }
+    Ok(())
+}
+
+#[test]
+fn fails_to_write(rt: HostRuntime) -> Result<(), Fail> {
+    let alloc = rt.alloc();
+    let mut files = shelf(alloc, NET, CALLS)?;
+    let mut failing = Vec::new(alloc);
+    failing.push(2u64)?;
+    let mut out = MemorySink::new(alloc, failing, 1, 200)?;
+    let given = words(alloc, &["outage", "replay", "n", "e"])?;
+    let status = outage_main(alloc, &given, &mut files, &mut out);
+    assert_eq!(rt; status, Status::WriteFault);
+    assert_eq!(rt; out.bytes(), b"co".as_slice());
+    Ok(())
+}
+
+// What a run of these words answers over the two files, and that nothing was written.
+fn run_idle(
+    rt: &impl Abort,
+    alloc: Global,
+    texts: &[&str],
+    want: Status,
+) -> Result<(), AllocError> {
+    let mut files = shelf(alloc, NET, CALLS)?;
+    let mut out = MemorySink::new(alloc, Vec::new(alloc), 7, 200)?;
+    let given = words(alloc, texts)?;
+    let status = outage_main(alloc, &given, &mut files, &mut out);
+    assert_eq!(rt; status, want);
+    assert_eq!(rt; out.bytes(), b"".as_slice());
+    Ok(())
+}
+
+#[test]
+fn writes_nothing(rt: HostRuntime) -> Result<(), Fail> {
+    let alloc = rt.alloc();
+    run_idle(
+        &rt,
+        alloc,
+        &["outage", "replay", "n", "missing"],
+        Status::ReadFault,
+    )?;
+    run_idle(
+        &rt,
+        alloc,
+        &["outage", "replay", "missing", "e"],
+        Status::ReadFault,
+    )?;
+    run_idle(&rt, alloc, &["outage", "replay", "n"], Status::Usage)?;
+    run_idle(&rt, alloc, &["outage", "replay", "n", "-e"], Status::Usage)?;
+    run_idle(&rt, alloc, &["outage", "trial", "n", "e"], Status::Usage)?;
+    Ok(())
+}
+
+#[test]
+fn read_fails_midway(rt: HostRuntime) -> Result<(), Fail> {
+    let alloc = rt.alloc();
+    let mut files = Vec::new(alloc);
+    files.push(file(alloc, "n", NET)?)?;
+    files.push(file(alloc, "e", CALLS)?)?;
+    let mut mishaps = Vec::new(alloc);
+    mishaps.push(Mishap {
+        name: String::from_str(alloc, "e")?,
+        at: Some(29),
+    })?;
+    let mut failing = MemoryShelf::new(files, mishaps, 1);
+    let mut out = MemorySink::new(alloc, Vec::new(alloc), 7, 200)?;
+    let given = words(alloc, &["outage", "replay", "n", "e"])?;
+    let status = outage_main(alloc, &given, &mut failing, &mut out);
+    assert_eq!(rt; status, Status::ReadFault);
+    assert_eq!(rt; out.bytes(), b"".as_slice());
+    Ok(())
+}

@@ -1,0 +1,4 @@
+pub mod Pieces
+pub mod Positions
+pub mod Named
+pub mod Results

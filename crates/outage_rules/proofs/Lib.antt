@@ -1,0 +1,24 @@
+pub mod Sums
+pub mod Live
+pub mod Rooted
+pub mod Forest
+pub mod Radial
+pub mod Balance
+pub mod Certified
+pub mod Checked
+pub mod Greedy
+pub mod Cautious
+pub mod Exists
+pub mod Lists
+pub mod Flags
+pub mod ByMeter
+pub mod Parts
+pub mod Example
+pub mod Repair
+pub mod DarkParts
+mod Tested
+pub mod Computed
+pub mod Closing
+pub mod Tree
+pub mod SummedRows
+pub mod Least
