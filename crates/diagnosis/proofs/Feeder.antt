@@ -1,5 +1,5 @@
 -- The small feeder of the tests is a network in tree order.
-use Rattle.std.proofs.Common.{◌≡◌, ℕ, zero, suc, ◌<◌, ◌≤◌, Bool, true, false, refl, sym, ap, ◌∙◌, subst, arith, List, [], ◌∷◌, get_or}
+use Rattle.std.proofs.Common.{◌≡◌, ℕ, zero, suc, ◌<◌, ◌≤◌, Bool, true, false, refl, sym, ap, ◌∙◌, subst, arith, List, [], ◌∷◌, length, get_or}
 use Rattle.std.specs.Prelude.{◌==◌, ◌&&◌, ◌||◌, not, nat_le, All, Result, Ok, Err, IfOk}
 use Rattle.std.specs.declared.alloc.AllocError.{AllocError}
 use Rattle.std.specs.List.{list_all}
@@ -170,3 +170,9 @@ built_in_order (Ok g) nodes sources devices meters a b c is =
     (subst (λ x. IsInTreeOrder (network_of (parts_with feeder_nodes x devices meters))) (sym b)
     (subst (λ x. IsInTreeOrder (network_of (parts_with feeder_nodes feeder_sources x meters))) (sym c) in_order)))
 built_in_order (Err e) nodes sources devices meters a b c is = tt
+
+-- and has four devices
+pub built_with_devices : (r : Result Parts AllocError) (nodes : List (List ℕ)) (sources : List NodeId) (devices : List Device) (meters : List Meter)
+    → devices ≡ feeder_devices → IfOk r (λ g. g ≡ parts_with nodes sources devices meters) → IfOk r (λ g. length g.devices ≡ 4)
+built_with_devices (Ok g) nodes sources devices meters a is = ap (λ x. length x.devices) is ∙ ap length a
+built_with_devices (Err e) nodes sources devices meters a is = tt

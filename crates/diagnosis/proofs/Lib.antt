@@ -1,2 +1,9 @@
 pub mod Rows
 pub mod Feeder
+pub mod Added
+pub mod Hanging
+pub mod Flagging
+pub mod Differing
+pub mod Hung
+pub mod Judging
+pub mod Distances

@@ -1,5 +1,8 @@
-//! The least cost of a network's dark reports, by sums from the leaves up.
+//! The least cost of a network's reports and the devices that it takes for opened, by sums from the leaves up.
 #![tactic(auto)]
+
+mod judged;
+mod passes;
 
 ghost use Rattle.std.specs.Prelude.{◌≡◌, ◌≤◌, ◌<◌, ◌^◌, length, sum, slice_index, IfOk};
 ghost use Rattle.outage_rules.specs.Diagnosis.{IsLeastCost};
@@ -8,6 +11,7 @@ ghost use Rattle.grid_model.specs.Network.{network_of, problem_with};
 ghost use Rattle.grid_model.specs.Sound.{IsSoundParts};
 
 use grid_model::{DeviceId, Grid, NodeId};
+pub use judged::Judged;
 use std::alloc::{AllocError, Global};
 
 /// The least cost over all sets of opened devices: the weights of the opened devices, and the dark

@@ -1,10 +1,11 @@
-//! The least cost on a small feeder.
+//! The least cost and the opened devices on a small feeder.
 ghost use Rattle.std.specs.Prelude.{◌≡◌, true, IfOk, length};
 ghost use Rattle.outage_rules.specs.TreeOrder.{IsInTreeOrder};
 ghost use Rattle.grid_model.specs.Network.{network_of};
+ghost use Rattle.diagnosis.specs.Judgement.{IsSized};
 
-use super::least;
-use grid_model::{Device, Grid, GridParts, Kind, Name, NodeId};
+use super::{Judged, least};
+use grid_model::{Device, DeviceId, Grid, GridParts, Kind, Mark, Name, NodeId};
 use std::alloc::{AllocError, Global};
 use std::process::Abort;
 
@@ -31,6 +32,7 @@ fn device(rt: &impl Abort, text: &[u8], kind: Kind, from: u32, to: u32, weight: 
 fn feeder(rt: &impl Abort, alloc: Global) -> Result<Grid, AllocError>
     ensures order { IfOk result (λ grid. IsInTreeOrder (network_of grid)) }
     ensures nodes { IfOk result (λ grid. length grid.nodes ≡ 5) }
+    ensures devices { IfOk result (λ grid. length grid.devices ≡ 4) }
 {
     let nodes = vec![in alloc;
         name(rt, b"S"),
@@ -66,5 +68,68 @@ fn costs_the_cheapest_devices_and_calls(rt: HostRuntime) -> Result<(), AllocErro
         let dark = [0, 0, u64::from(at_c), u64::from(at_d), u64::from(at_e)];
         assert_eq!(rt; least(rt.alloc(), &grid, &dark)?, cost);
     }
+    Ok(())
+}
+
+// A first judgement of the feeder.
+fn judged_of(alloc: Global, grid: &Grid) -> Result<Judged, AllocError>
+    requires order { IsInTreeOrder (network_of grid.now) }
+    requires nodes { length grid.now.nodes ≡ 5 }
+    requires devices { length grid.now.devices ≡ 4 }
+    ensures { IfOk result (IsSized 5 4) }
+{
+    Judged::new(alloc, grid)
+}
+
+// Judges the feeder by three marks and two dark weights, and with live reports at C and at E.
+fn judge(judged: &mut Judged, grid: &Grid, marks: [Mark; 3], at_c: u32, at_d: u32)
+    requires order { IsInTreeOrder (network_of grid.now) }
+    requires nodes { length grid.now.nodes ≡ 5 }
+    requires devices { length grid.now.devices ≡ 4 }
+    requires sized { IsSized 5 4 judged.old }
+    ensures { IsSized 5 4 judged.new }
+{
+    let marks = [Mark::Nothing, marks[0], marks[1], marks[2]];
+    let dark = [0, 0, u64::from(at_c), u64::from(at_d), 0];
+    judged.recompute(grid, &[true; 4], &marks, &dark, &[0, 0, 7, 0, 5]);
+}
+
+// The feeder, judged with dark weights at C and at D.
+fn judged_feeder(rt: &impl Abort, alloc: Global, at_c: u32, at_d: u32) -> Result<Judged, AllocError>
+    ensures { IfOk result (IsSized 5 4) }
+{
+    let grid = feeder(rt, alloc)?;
+    let mut judged = judged_of(alloc, &grid)?;
+    judge(&mut judged, &grid, [Mark::Nothing; 3], at_c, at_d);
+    Ok(judged)
+}
+
+// Two calls at C cost 60, the fuse above it 40, and the live reports there 7.
+#[test]
+fn opens_the_fuse(rt: HostRuntime) -> Result<(), AllocError> {
+    let judged = judged_feeder(&rt, rt.alloc(), 60, 0)?;
+    let list = judged.opened_list(rt.alloc())?;
+    assert_eq!(rt; judged.cost(), 47);
+    assert_eq!(rt; list.as_slice(), [DeviceId(1)].as_slice());
+    Ok(())
+}
+
+#[test]
+fn tells_rows_and_walks(rt: HostRuntime) -> Result<(), AllocError> {
+    let judged = judged_feeder(&rt, rt.alloc(), 60, 30)?;
+    assert_eq!(rt; judged.parent(NodeId(2)), Some(DeviceId(1)));
+    assert_eq!(rt; judged.depth(NodeId(2)), Some(2));
+    assert_eq!(rt; judged.live_of(NodeId(1)), 77);
+    assert_eq!(rt; judged.dark_of(NodeId(1)), 12);
+    Ok(())
+}
+
+#[test]
+fn lists_what_differs(rt: HostRuntime) -> Result<(), AllocError> {
+    let judged = judged_feeder(&rt, rt.alloc(), 60, 0)?;
+    assert!(rt; judged.is_opened(DeviceId(1)));
+    assert!(rt; judged.is_dark(NodeId(2)));
+    assert_eq!(rt; judged.changed(), [DeviceId(1)].as_slice());
+    assert_eq!(rt; judged.flipped(), [NodeId(2)].as_slice());
     Ok(())
 }

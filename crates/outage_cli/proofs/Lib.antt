@@ -1,12 +1,8 @@
 pub mod CallWeights
-pub mod CutPlaces
-pub mod DecimalValues
 pub mod DeviceRows
 pub mod DraftNames
 pub mod DraftRows
-pub mod FieldParts
 pub mod GridSteps
-pub mod LineParts
 pub mod Replaying
 pub mod RowSorts
 pub mod StampShape

@@ -1,8 +1,6 @@
 pub mod Draft
-pub mod FieldsLeft
 pub mod Form
 pub mod GridReader
-pub mod LineEnds
 pub mod Number
 pub mod Places
 pub mod RowFields

@@ -7,10 +7,10 @@ ghost use Rattle.event_rules.specs.GridText.{parts_of, may_follow, with_line, Ro
 ghost use Rattle.outage_cli.specs.Draft.{IsDraftOf, IsReadInto, rows_after};
 
 use crate::kinds::default_weight;
-use crate::lines::is_skipped_line;
 use crate::rows::read_row;
 use event_rules::{DeviceRow, MeterRow, Row};
 use grid_model::{Device, GridParts, Meter, Name, Names, NodeId};
+use line_text::is_skipped_line;
 use std::alloc::{AllocError, Global};
 
 /// What the rows so far say.

@@ -3,11 +3,10 @@ ghost use Rattle.std.specs.Prelude.{◌≡◌};
 ghost use Rattle.event_rules.specs.Fields.{between_commas};
 ghost use Rattle.event_rules.specs.EventText.{caller_in, event_of};
 
-use crate::fields::Fields;
-use crate::lines::is_skipped_line;
 use crate::stamps::has_stamp_shape;
 use event_rules::{EventLine, EventRule};
 use grid_model::{Grid, Name};
+use line_text::{Fields, is_skipped_line};
 
 // The name in a line of the form TIME,call,METER.
 fn read_caller(line: &[u8]) -> Option<Name>

@@ -5,9 +5,9 @@ ghost use Rattle.outage_cli.specs.declared.grid_reader.GridRule.{GridRule};
 ghost use Rattle.outage_cli.specs.GridReader.{IsDraftOfText};
 
 use crate::draft::Draft;
-use crate::lines::next_line;
 use event_rules::text_is_sound;
 use grid_model::Grid;
+use line_text::next_line;
 use std::alloc::{AllocError, Global};
 use thiserror::Error;
 

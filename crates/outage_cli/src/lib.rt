@@ -1,14 +1,10 @@
 //! The top call over a shelf and a sink: from the bytes of two files to the bytes written and the status.
 #![tactic(auto)]
 
-mod cuts;
-mod decimals;
 mod draft;
 mod event_line;
-mod fields;
 mod grid_reader;
 mod kinds;
-mod lines;
 mod main_call;
 mod replay;
 mod rows;

@@ -7,10 +7,10 @@ ghost use Rattle.event_rules.specs.Output.{row, rule_word, calls_after, cost_row
 ghost use Rattle.outage_cli.specs.Tallied.{Tallies, IsTally};
 
 use crate::event_line::read_event;
-use crate::lines::next_line;
 use crate::tally::Tally;
 use event_rules::{EventLine, EventRule};
 use grid_model::Grid;
+use line_text::next_line;
 use std::alloc::{AllocError, Global};
 
 // The word of a rule by which a line is refused.

@@ -1,17 +1,24 @@
 //! The rows of a network text.
 ghost use Rattle.std.specs.Prelude.{◌≡◌};
+ghost use Rattle.event_rules.specs.Decimals.{decimal_within};
 ghost use Rattle.event_rules.specs.Rows.{row_of, row_of_fields};
 ghost use Rattle.outage_cli.specs.RowSorts as sorts;
 ghost use Rattle.outage_cli.specs.RowFields.{source_fields, meter_fields, device_fields};
 
-use crate::decimals::decimal_between;
-use crate::fields::Fields;
 use crate::kinds::kind_named;
-use crate::lines::MOST_LINE;
 use event_rules::{DeviceRow, MeterRow, Row};
 use grid_model::Name;
+use line_text::{Fields, MOST_LINE, read_decimal};
 
-const MOST_CUSTOMERS: u32 = 1_000_000;
+const MOST_CUSTOMERS: u64 = 1_000_000;
+
+// A number of customers.
+fn read_customers(text: &[u8]) -> Option<u32>
+    ensures { result ≡ decimal_within 1 1000000 text.now }
+{
+    let customers = read_decimal(text, MOST_CUSTOMERS)?;
+    (customers >= 1).then_some(customers as u32)
+}
 
 #[derive(Clone, Copy)]
 enum RowSort {
@@ -55,7 +62,7 @@ fn read_meter(mut fields: Fields<'_>) -> Option<Row>
     Some(Row::Meter(MeterRow {
         name: Name::read(name)?,
         node: Name::read(node)?,
-        customers: decimal_between(customers, 1, MOST_CUSTOMERS)?,
+        customers: read_customers(customers)?,
     }))
 }
 

@@ -1,0 +1,7 @@
+use Rattle.std.proofs.Common.{◌≡◌, ℕ, ◌<◌, false, []}
+use Rattle.bound_checker.specs.Claimed.{problem_of, cut_in}
+use Rattle.bound_checker.specs.Conditions.{is_missing}
+use Rattle.bound_checker.proofs.cuts.first_missing.Given as goal
+
+abbrev pub invariant-loop-d : goal.invariant-loop-d
+invariant-loop-d l = (k : ℕ) → k < l.d → is_missing (problem_of l.grid [] l.marks [] []) (cut_in l.cuts) k ≡ false

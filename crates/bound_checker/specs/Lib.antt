@@ -1,0 +1,5 @@
+pub mod Claimed
+pub mod Conditions
+pub mod Verdict
+pub mod Laws
+pub mod Chains

@@ -1,0 +1,13 @@
+pub mod RowTexts
+pub mod ReportSteps
+pub mod FirstLines
+pub mod Pieces
+pub mod LinesOfNetwork
+pub mod OfNetwork
+pub mod WordBytes
+pub mod Commas
+pub mod Lookups
+pub mod PrintedLines
+pub mod Written
+pub mod SmallFeeder
+pub mod TextNames

@@ -1,0 +1,6 @@
+-- The printed lines are taken one after the other.
+use Rattle.bound_table.proofs.Written.{written_is_read}
+use Rattle.bound_table.proofs.laws.written_is_read.Goals as goal
+
+pub returns : goal.returns
+returns c = written_is_read

@@ -1,0 +1,10 @@
+pub mod Table
+pub mod Sound
+pub mod Printed
+pub mod ReportLines
+pub mod BoundLines
+pub mod Parents
+pub mod Report
+pub mod Faults
+pub mod Laws
+pub mod Tight

@@ -1,0 +1,17 @@
+//! Laws of reports.
+ghost use Rattle.bound_table.specs.Laws.{TextHasNames, WrittenIsRead, ReadIsOfNetwork};
+
+/// The nodes and the devices of a network text have names.
+pub fn text_has_names()
+    ensures { TextHasNames }
+{}
+
+/// Bounds are read as they were printed, whatever lines stand before them.
+pub fn written_is_read()
+    ensures { WrittenIsRead }
+{}
+
+/// Bounds that are read ascend, and are of the network and within the ranges of numbers.
+pub fn read_is_of_network()
+    ensures { ReadIsOfNetwork }
+{}

@@ -1,0 +1,18 @@
+//! The certificate of a diagnosis: its cost, its cuts and a row for each fed node; how it is
+//! printed, and how it is read again.
+#![tactic(auto)]
+
+mod bound_line;
+mod bounds;
+mod laws;
+mod lines;
+mod read;
+mod write;
+
+pub use bounds::{BoundFault, BoundRow, BoundRule, Bounds};
+pub use laws::{read_is_of_network, text_has_names, written_is_read};
+pub use read::read_bounds;
+pub use write::put_bounds;
+
+#[cfg(test)]
+mod tests;

@@ -1,0 +1,4 @@
+pub mod Problem
+pub mod Judgement
+pub mod Passes
+pub mod JudgedInside
