@@ -1,8 +1,9 @@
 //! Reading the bounds of a report.
-ghost use Rattle.std.specs.Prelude.{◌≡◌, ◌+◌, ◌≤◌, ◌<◌, ℕ, length, OnOk, IfOk, IfErr, if◌then◌else◌};
+ghost use Rattle.std.specs.Prelude.{◌≡◌, ◌+◌, ◌≤◌, ◌<◌, ℕ, length, OnOk, IfOk, IfErr, Err, if◌then◌else◌};
 ghost use Rattle.grid_model.specs.Parts.{Parts};
+ghost use Rattle.bound_table.specs.declared.bounds.BoundRule.{BoundRule};
 ghost use Rattle.bound_table.specs.Sound.{IsTableOf};
-ghost use Rattle.bound_table.specs.Report.{report_reading, after_text, begins_bounds, bare_table, with_line, with_bound_line, with_cut, with_row, Before, Inside, Ended, IsRead};
+ghost use Rattle.bound_table.specs.Report.{report_reading, after_text, begins_bounds, bare_table, with_line, with_bound_line, with_cut, with_row, Before, Inside, Ended, IsRead, IsRefused};
 ghost use Rattle.bound_table.specs.Faults.{IsFaultOf, IsFaultAt};
 
 use crate::bound_line::BoundLine;
@@ -132,10 +133,8 @@ fn read_part<'a>(grid: &Grid, bounds: &mut Bounds, left: Left<'a>) -> Result<Lef
     })
 }
 
-/// The bounds of a report: lines that don't begin with `bounds,`, then the bounds part as
-/// `put_bounds` prints it, then nothing. Each line ends with an LF; what stands behind the last LF
-/// is no line.
-pub fn read_bounds(alloc: Global, grid: &Grid, bytes: &[u8]) -> Result<Bounds, BoundFault>
+// The bounds of a report.
+fn read_table(alloc: Global, grid: &Grid, bytes: &[u8]) -> Result<Bounds, BoundFault>
     requires { length bytes.now ≤ 268435456 }
     ensures read { IfOk result (λ bounds. report_reading grid.now bytes.now ≡ IsRead bounds) }
     ensures of_network { IfOk result (IsTableOf grid.now) }
@@ -156,4 +155,16 @@ pub fn read_bounds(alloc: Global, grid: &Grid, bytes: &[u8]) -> Result<Bounds, B
     }
     read_is_of_network();
     Ok(bounds)
+}
+
+/// The bounds of a report: lines that don't begin with `bounds,`, then the bounds part as
+/// `put_bounds` prints it, then nothing. Each line ends with an LF; what stands behind the last LF
+/// is no line.
+pub fn read_bounds(alloc: Global, grid: &Grid, bytes: &[u8]) -> Result<Bounds, BoundFault>
+    requires { length bytes.now ≤ 268435456 }
+    ensures read { IfOk result (λ bounds. report_reading grid.now bytes.now ≡ IsRead bounds) }
+    ensures of_network { IfOk result (IsTableOf grid.now) }
+    ensures refused { (line : ℕ) (rule : BoundRule) → result ≡ Err (BoundFault.Refused line rule) → report_reading grid.now bytes.now ≡ IsRefused line rule }
+{
+    read_table(alloc, grid, bytes)
 }

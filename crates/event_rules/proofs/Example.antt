@@ -12,9 +12,9 @@ use Rattle.event_rules.specs.Lines.{lines}
 use Rattle.event_rules.specs.Fields.{parts_from}
 use Rattle.event_rules.specs.Rows.{row_of}
 use Rattle.event_rules.specs.GridText.{IsGrid, IsRefusedAt, default_settings, with_lines, grid_text}
-use Rattle.event_rules.specs.Calls.{problem_of, least_of}
+use Rattle.event_rules.specs.Calls.{problem_of, least_of, diagnosis_of}
 use Rattle.event_rules.specs.EventText.{event_of}
-use Rattle.event_rules.specs.Output.{entries, calls_in, replay_text}
+use Rattle.event_rules.specs.Output.{change_rows, entries, calls_in, replay_text}
 
 -- LF ends a line, and a CR directly before it belongs to that end
 an_end_of_two : lines (codes "a\r\nb\r") ≡ codes "a" ∷ codes "b\r" ∷ []
@@ -88,8 +88,8 @@ unfolding least_of problem_of least_cost
 two_calls_cost_40 = refl
 
 -- all that a replay of the two calls prints
-printed : replay_text feeder events ≡ codes "cost,1,30\ncost,2,40\ntotal,40\nend\n"
-unfolding replay_text entries calls_in lines event_of parts_from least_of problem_of least_cost digits
+printed : replay_text feeder events ≡ codes "cost,1,30\nenters,2,F1\ncost,2,40\ntotal,40\nend\n"
+unfolding replay_text entries calls_in change_rows lines event_of parts_from least_of diagnosis_of problem_of least_cost digits
 printed = refl
 
 -- without events nothing is lost
@@ -104,5 +104,5 @@ refused_at_4 = refl
 
 -- skipped and refused lines, and a call that changes no cost
 refusals_printed : replay_text feeder (codes "# a note\n\n2024-03-01T10:00:00Z,gasp,M1\n2024-03-01T10:00:00Z,call,M9\n2024-03-01T10:00:00Z,call,M1\n2024-03-01T10:00:01Z,call,M1\n") ≡ codes "refused,3,NotBuilt\nrefused,4,UnknownMeter\ncost,5,30\ntotal,30\nend\n"
-unfolding replay_text entries calls_in lines event_of parts_from least_of problem_of least_cost digits
+unfolding replay_text entries calls_in change_rows lines event_of parts_from least_of diagnosis_of problem_of least_cost digits
 refusals_printed = refl

@@ -2,8 +2,8 @@
 use Rattle.std.specs.Prelude.{ℕ, Bool, ◌==◌, List, length, if◌then◌else◌}
 use Rattle.std.specs.List.{list_any}
 use Rattle.outage_rules.specs.Sum.{total}
-use Rattle.outage_rules.specs.Network.{Problem}
-use Rattle.outage_rules.specs.Reference.{least_cost}
+use Rattle.outage_rules.specs.Network.{Problem, Cut}
+use Rattle.outage_rules.specs.Reference.{least_cost, reference_cut}
 use Rattle.grid_model.specs.Parts.{Parts}
 use Rattle.grid_model.specs.Places.{node_of, setting_of}
 use Rattle.grid_model.specs.Network.{problem_with}
@@ -28,3 +28,7 @@ problem_of g calls = problem_with g (dark_at g calls)
 -- the least cost of an explanation of the calls
 unfoldable pub least_of : Parts → List ℕ → ℕ
 least_of g calls = least_cost (problem_of g calls)
+
+-- the diagnosis: of the sets of devices that explain the calls at the least cost, the one that leaves fewest nodes dark
+unfoldable pub diagnosis_of : Parts → List ℕ → Cut
+diagnosis_of g calls = reference_cut (problem_of g calls)

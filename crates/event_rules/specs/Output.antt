@@ -1,13 +1,15 @@
 -- The output of a replay.
-use Rattle.std.specs.Prelude.{ℕ, ◌+◌, ◌==◌, List, [], ◌∷◌, ◌++◌, if◌then◌else◌, codes, decimal}
-use Rattle.std.specs.List.{join_with_byte}
+use Rattle.std.specs.Prelude.{ℕ, ◌+◌, ◌==◌, ◌&&◌, not, List, [], ◌∷◌, ◌++◌, length, flat_map, if◌then◌else◌, codes, decimal}
+use Rattle.std.specs.List.{join_with_byte, range_with_len}
+use Rattle.outage_rules.specs.Network.{Cut}
 use Rattle.grid_model.specs.Parts.{Parts}
+use Rattle.grid_model.specs.Places.{device_at}
 use Rattle.event_rules.specs.declared.event_line.EventLine.{EventLine}
 use Rattle.event_rules.specs.declared.event_line.EventLine.TheVariants.{Skipped, Refused, Call}
 use Rattle.event_rules.specs.declared.event_line.EventRule.{EventRule}
 use Rattle.event_rules.specs.declared.event_line.EventRule.TheVariants.{NotBuilt, UnknownMeter}
 use Rattle.event_rules.specs.Lines.{lines}
-use Rattle.event_rules.specs.Calls.{least_of}
+use Rattle.event_rules.specs.Calls.{least_of, diagnosis_of}
 use Rattle.event_rules.specs.EventText.{event_of}
 
 -- words with commas between them, and the end of the line
@@ -28,11 +30,23 @@ calls_after calls (Call m) = m.0 ∷ calls
 abbrev pub cost_row : ℕ → ℕ → ℕ → List ℕ
 cost_row line before after = if before == after then [] else row (codes "cost" ∷ decimal line ∷ decimal after ∷ [])
 
+-- a row with this word for each device that the first set has and the second hasn't, by number
+unfoldable pub change_rows : Parts → List ℕ → ℕ → Cut → Cut → List ℕ
+change_rows g word line has hasnt =
+    flat_map (λ d. if has d && not (hasnt d) then row (word ∷ decimal line ∷ (device_at g d).name ∷ []) else []) (range_with_len 0 (length g.devices))
+
+-- the devices that leave the diagnosis and those that enter it, and the least cost
+abbrev pub changes : Parts → ℕ → List ℕ → List ℕ → List ℕ
+changes g line before after =
+    change_rows g (codes "leaves") line (diagnosis_of g before) (diagnosis_of g after)
+    ++ change_rows g (codes "enters") line (diagnosis_of g after) (diagnosis_of g before)
+    ++ cost_row line (least_of g before) (least_of g after)
+
 -- what is printed of a line
 abbrev pub entry : Parts → ℕ → List ℕ → EventLine → List ℕ
 entry g line calls Skipped = []
 entry g line calls (Refused rule) = row (codes "refused" ∷ decimal line ∷ rule_word rule ∷ [])
-entry g line calls (Call m) = cost_row line (least_of g calls) (least_of g (m.0 ∷ calls))
+entry g line calls (Call m) = changes g line calls (m.0 ∷ calls)
 
 -- what is printed of the lines from a number on
 unfoldable pub entries : Parts → ℕ → List ℕ → List (List ℕ) → List ℕ

@@ -8,7 +8,7 @@ mod least_laws;
 mod row;
 
 pub use event_line::{EventLine, EventRule};
-pub use least_laws::least_of_is_least;
+pub use least_laws::{diagnosis_of_is_diagnosis, least_of_is_least};
 pub use row::{DeviceRow, MeterRow, Row};
 
 /// The devices of a network text stand in tree order.

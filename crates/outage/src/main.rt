@@ -17,12 +17,17 @@ fn words_of<R: Env + AllocGlobal>(rt: &R) -> io::Result<Vec<String>> {
 // The line of a status on standard error.
 fn tell<R: Eprint>(rt: &R, status: Status) -> io::Result<()> {
     match status {
-        Status::Done => Ok(()),
-        Status::Usage => eprintln!(rt; "outage: usage: replay NET EVENTS"),
+        Status::Done | Status::Invalid { .. } => Ok(()),
+        Status::Usage => eprintln!(rt;
+            "outage: usage: replay NET EVENTS [--bounds], check NET EVENTS REPORT"
+        ),
         Status::ReadFault => eprintln!(rt; "outage: a read failed"),
         Status::WriteFault => eprintln!(rt; "outage: a write failed"),
         Status::NetworkRefused { line, rule } => {
             eprintln!(rt; "outage: network line {line}: {rule}")
+        }
+        Status::ReportRefused { line, rule } => {
+            eprintln!(rt; "outage: report line {line}: {rule}")
         }
         Status::Limit { which } => eprintln!(rt; "outage: limit: {which}"),
         Status::Memory => eprintln!(rt; "outage: no memory"),

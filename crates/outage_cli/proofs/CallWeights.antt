@@ -1,21 +1,17 @@
--- What calls weigh, and their least cost.
-use Rattle.std.proofs.Common.{◌≡◌, ℕ, ◌+◌, ◌<◌, ◌≤◌, Bool, true, false, cond, refl, sym, ap, ◌∙◌, subst, ⊎_elim, arith, List, [], ◌∷◌, length, get_or}
+-- What calls weigh.
+use Rattle.std.proofs.Common.{◌≡◌, ℕ, ◌+◌, ◌<◌, ◌≤◌, Bool, true, false, cond, refl, sym, ap, ◌∙◌, ⊎_elim, arith, List, [], ◌∷◌, length, get_or}
 use Rattle.std.specs.Prelude.{◌==◌, ◌||◌, sum}
 use Rattle.std.proofs.Math.Path.{fun_ext}
 use Rattle.std.proofs.lemmas.Bool.{cases_eq, eq-eqb, ne_eqb, eqb-true, or_right, false≢true}
 use Rattle.outage_rules.specs.Sum.{total}
-use Rattle.outage_rules.specs.Diagnosis.{IsLeastCost}
-use Rattle.outage_rules.specs.Reference.{least_cost}
 use Rattle.outage_rules.proofs.Sums.{total_same, total_zero, total_add, total_swap, total_one, total_at_most_one, total_le_times}
 use Rattle.outage_rules.proofs.Lists.{total_list}
-use Rattle.outage_rules.proofs.Least.{one_least, nothing_costs}
 use Rattle.grid_model.specs.Parts.{Parts}
 use Rattle.grid_model.specs.Sound.{IsSoundParts}
 use Rattle.grid_model.specs.Places.{node_of, setting_of}
 use Rattle.grid_model.specs.Network.{problem_with}
 use Rattle.grid_model.specs.declared.parts.Setting.TheVariants.{Call}
-use Rattle.event_rules.specs.Calls.{has_called, call_weight, dark_at, problem_of, least_of}
-use Rattle.event_rules.proofs.Least.{least_of_least}
+use Rattle.event_rules.specs.Calls.{has_called, call_weight, dark_at, problem_of}
 
 -- what a meter adds to a node
 abbrev adds : Parts → List ℕ → ℕ → ℕ → ℕ
@@ -46,7 +42,7 @@ module _ (g : Parts) (calls : List ℕ) (sound : IsSoundParts g) where
       let few = sound.few_meters in omega arith
 
   -- the weights of all nodes are those of all meters
-  all_small : (n : ℕ) → total n (dark_at g calls) ≤ 500000000000
+  pub all_small : (n : ℕ) → total n (dark_at g calls) ≤ 500000000000
   all_small n =
       let swapped = total_swap n (length g.meters) (adds g calls) in
       let each = total_le_times (length g.meters) (λ m. total n (λ k. adds g calls k m)) 1000000 (λ m l. once n m) in
@@ -58,22 +54,8 @@ module _ (g : Parts) (calls : List ℕ) (sound : IsSoundParts g) where
       let named = total_same (length dark) (λ k. get_or dark k 0) (dark_at g calls) (λ k l. same k) in
       let all = all_small (length dark) in omega arith
 
-  -- the least cost by these weights is that of the calls
-  pub least_is : (dark : ℕ → ℕ) (c : ℕ) → ((n : ℕ) → dark n ≡ dark_at g calls n) → IsLeastCost (problem_with g dark) c → c ≡ least_of g calls
-  unfolding problem_of
-  least_is dark c same least =
-      one_least (problem_with g (dark_at g calls)) c (least_of g calls)
-      (subst (λ f. IsLeastCost (problem_with g f) c) (fun_ext same) least)
-      (least_of_least g calls sound)
-
 pub dark_none : (g : Parts) (n : ℕ) → dark_at g [] n ≡ 0
 dark_none g n = total_zero (length g.meters) (adds g [] n) (λ m l. either_zero (node_of g m == n))
-
--- without calls nothing is opened
-pub least_none : (g : Parts) → IsSoundParts g → 0 ≡ least_of g []
-least_none g sound =
-    least_is g [] sound (dark_at g []) 0 (λ n. refl)
-    (nothing_costs (problem_with g (dark_at g [])) (record { unmarked = λ d. refl; not_fine = λ d. refl; no_live = λ n. refl }) (dark_none g))
 
 module _ (g : Parts) (calls : List ℕ) (m : ℕ) where
   module _ (before : has_called calls m ≡ true) where
@@ -91,9 +73,9 @@ module _ (g : Parts) (calls : List ℕ) (m : ℕ) where
         total_same (length g.meters) (adds g (m ∷ calls) n) (adds g calls n)
         (λ k l. ap (λ b. cond (node_of g k == n) (cond b (setting_of g Call) 0) 0) (called_again k))
 
-    pub least_again : least_of g calls ≡ least_of g (m ∷ calls)
-    unfolding problem_of least_of
-    least_again = ap (λ f. least_cost (problem_with g f)) (sym (fun_ext dark_again))
+    pub problem_again : problem_of g (m ∷ calls) ≡ problem_of g calls
+    unfolding problem_of
+    problem_again = ap (problem_with g) (fun_ext dark_again)
 
   module _ (within : m < length g.meters) (before : has_called calls m ≡ false) where
     share : (b a called : Bool) (w : ℕ) → (a ≡ true → called ≡ false) → cond b (cond (a || called) w 0) 0 ≡ cond b (cond called w 0) 0 + cond a (cond b w 0) 0

@@ -1,5 +1,5 @@
 -- How far a replay has come.
-use Rattle.std.proofs.Common.{◌≡◌, ℕ, ◌+◌, ◌<◌, ◌≤◌, Bool, true, false, cond, refl, sym, ap, ◌∙◌, arith, List, [], ◌∷◌, ◌++◌, length, append_assoc, append-nil, Option, Some, None}
+use Rattle.std.proofs.Common.{◌≡◌, ℕ, ◌+◌, ◌<◌, ◌≤◌, Bool, true, false, cond, refl, sym, ap, ◌∙◌, subst, arith, List, [], ◌∷◌, ◌++◌, length, append_assoc, append-nil, Option, Some, None}
 use Rattle.std.specs.Prelude.{codes, decimal}
 use Rattle.std.proofs.lemmas.List.Quantifiers.{position-Some}
 use Rattle.grid_model.specs.Parts.{Parts}
@@ -16,7 +16,7 @@ use Rattle.outage_cli.specs.declared.tally.Tally.{Tally}
 use Rattle.outage_cli.specs.Tallied.{Tallies}
 
 -- some calls so far, their tally and what is printed of them; what is left of the text completes them
-pub record Replayed (g : Parts) (events out : List ℕ) (number : ℕ) (t : Tally) (rest : List ℕ) : Type 0 where
+pub record Reached (g : Parts) (events out : List ℕ) (number : ℕ) (t : Tally) (rest : List ℕ) : Type 0 where
   pub calls : List ℕ
   pub tallied : Tallies g calls t
   pub printed : out ++ entries g number calls (lines rest) ≡ entries g 1 [] (lines events)
@@ -40,15 +40,15 @@ caller_known g line m e = in_line (is_skipped line) (caller_in (between_commas l
     in_line false (Some name) e = by_name name (meter_named g name) refl e
 
 module _ (g : Parts) (events : List ℕ) where
-  pub replay_starts : (t : Tally) → Tallies g [] t → Replayed g events [] 1 t events
+  pub replay_starts : (t : Tally) → Tallies g [] t → Reached g events [] 1 t events
   replay_starts t tallied = record { calls = []; tallied = tallied; printed = refl; all = refl; few = omega arith }
 
-  module _ (out line behind new rest : List ℕ) (number : ℕ) (t u : Tally) (before : Replayed g events out number t rest) where
+  module _ (out line behind new rest : List ℕ) (number : ℕ) (t u : Tally) (before : Reached g events out number t rest) where
     -- one more line
     pub replay_goes_on : lines rest ≡ line ∷ lines behind → length behind < length rest
         → Tallies g (calls_after before.calls (event_of g line)) u
         → new ≡ out ++ entry g number before.calls (event_of g line)
-        → Replayed g events new (number + 1) u behind
+        → Reached g events new (number + 1) u behind
     unfolding entries calls_in
     replay_goes_on cut shorter tallied printed =
         let calls = before.calls in
@@ -64,8 +64,14 @@ module _ (g : Parts) (events : List ℕ) where
           few = let few = before.few in omega arith;
         }
 
-  -- after the last line
-  pub replay_ends : (out new rest : List ℕ) (number cost : ℕ) (t : Tally) (before : Replayed g events out number t rest) → rest ≡ [] → cost ≡ least_of g before.calls
+  -- after the last line all calls are tallied
+  pub tally_ends : (out rest : List ℕ) (number : ℕ) (t : Tally) → Reached g events out number t rest → rest ≡ [] → Tallies g (calls_in g [] (lines events)) t
+  unfolding calls_in lines
+  tally_ends out rest number t before none =
+      subst (λ calls. Tallies g calls t) (ap (λ r. calls_in g before.calls (lines r)) (sym none) ∙ before.all) before.tallied
+
+  -- and all is printed
+  pub replay_ends : (out new rest : List ℕ) (number cost : ℕ) (t : Tally) (before : Reached g events out number t rest) → rest ≡ [] → cost ≡ least_of g before.calls
       → new ≡ out ++ (row (codes "total" ∷ decimal cost ∷ []) ++ row (codes "end" ∷ [])) → new ≡ replay_text g events
   unfolding entries calls_in lines replay_text
   replay_ends out new rest number cost t before none least printed =

@@ -1,19 +1,34 @@
 -- What a call does to a tally.
-use Rattle.std.proofs.Common.{◌≡◌, ℕ, ◌+◌, ◌<◌, ◌≤◌, Bool, true, false, cond, sym, ap, ◌∙◌, ⊎_elim, arith, List, [], ◌∷◌, length, get_or, set}
+use Rattle.std.proofs.Common.{◌≡◌, ℕ, ◌+◌, ◌<◌, ◌≤◌, Bool, true, false, cond, sym, ap, ◌∙◌, subst, ⊎_elim, arith, List, [], ◌∷◌, length, get_or, set}
 use Rattle.std.specs.Prelude.{◌||◌, sum, replicate}
-use Rattle.std.proofs.lemmas.Bool.{cases_lt, cases_eq, eq-eqb, ne_eqb}
-use Rattle.std.proofs.lemmas.List.{get_or-set_same, get_or-set_other, length-set, length-replicate, get_or-replicate, get_or_past, get_or_read}
-use Rattle.outage_rules.specs.Diagnosis.{IsLeastCost}
+use Rattle.std.proofs.lemmas.Bool.{cases_eq, eq-eqb, ne_eqb}
+use Rattle.std.proofs.lemmas.List.{get_or-set_same, get_or-set_other, length-set, length-replicate, get_or_read}
+use Rattle.outage_rules.specs.Network.{Problem}
+use Rattle.outage_rules.specs.Diagnosis.{cost, IsDiagnosis}
+use Rattle.outage_rules.specs.Laws.{IsWithin}
+use Rattle.outage_rules.specs.TreeOrder.{IsInTreeOrder}
+use Rattle.outage_rules.specs.Reference.{reference_cut, least_cost}
 use Rattle.grid_model.specs.Parts.{Parts}
 use Rattle.grid_model.specs.Sound.{IsSoundParts}
 use Rattle.grid_model.specs.Places.{meter_at, node_of, setting_of}
-use Rattle.grid_model.specs.Network.{problem_with}
+use Rattle.grid_model.specs.Network.{network_of, problem_with}
+use Rattle.grid_model.specs.declared.history.Mark.TheVariants.{Nothing}
 use Rattle.grid_model.specs.declared.parts.Meter.{Meter}
 use Rattle.grid_model.specs.declared.parts.Setting.TheVariants.{Call}
-use Rattle.event_rules.specs.Calls.{has_called, dark_at}
+use Rattle.event_rules.specs.Calls.{has_called, dark_at, problem_of, least_of, diagnosis_of}
+use Rattle.diagnosis.specs.Problem as posed_by
+use Rattle.diagnosis.specs.Judgement.{Judgement, IsSized, IsJudged, opened_by}
 use Rattle.outage_cli.specs.declared.tally.Tally.{Tally}
 use Rattle.outage_cli.specs.Tallied.{Tallies}
-use Rattle.outage_cli.proofs.CallWeights.{called_again, dark_again, least_again, least_none, dark_none, dark_more, least_is, dark_small, sum_small}
+use Rattle.outage_cli.proofs.CallWeights.{called_again, dark_again, problem_again, dark_none, dark_more, dark_small, sum_small}
+use Rattle.outage_cli.proofs.Diagnosed.{replicate_same, poses_calls, poses_none, diagnosis_is, diagnosis_costs}
+
+-- what a tally takes of the judgement of a problem
+pub record Judges (p : Problem) (j : Judgement) : Type 0 where
+  pub judged : IsJudged p j
+  pub diagnosis : IsDiagnosis p (opened_by j)
+  pub within : IsWithin p (opened_by j)
+  pub cost : j.cost ≡ cost p (opened_by j)
 
 -- what a call reads of a tally
 module _ (g : Parts) (calls : List ℕ) (m : ℕ) (t : Tally) (within : m < length g.meters) (tallied : Tallies g calls t) where
@@ -37,17 +52,28 @@ module _ (g : Parts) (calls : List ℕ) (m : ℕ) (t : Tally) (within : m < leng
 
   -- a second call of a meter changes nothing
   pub tallies_again : get_or t.called.items m false ≡ true → Tallies g (m ∷ calls) t
+  unfolding least_of diagnosis_of
   tallies_again flag =
       let before : has_called calls m ≡ true = sym (tallied.called m within) ∙ flag in
+      let same = sym (problem_again g calls m before) in
       record {
         sound = tallied.sound;
         meters = tallied.meters;
         called = λ k l. tallied.called k l ∙ sym (called_again g calls m before k);
         nodes = tallied.nodes;
         dark = λ n. tallied.dark n ∙ sym (dark_again g calls m before n);
-        rows = tallied.rows;
-        cost = tallied.cost ∙ least_again g calls m before;
+        live = tallied.live;
+        closed = tallied.closed;
+        marks = tallied.marks;
+        judged = subst (λ p. IsJudged p t.judged) same tallied.judged;
+        opened = tallied.opened ∙ ap reference_cut same;
+        cost = tallied.cost ∙ ap least_cost same;
       }
+
+  -- its judgement has an entry a node and a device
+  pub judged_is_sized : IsSized (length g.nodes) (length g.devices) t.judged
+  unfolding problem_of
+  judged_is_sized = tallied.judged.sized
 
 module _ (g : Parts) (calls : List ℕ) (m : ℕ) (t : Tally) (within : m < length g.meters) (tallied : Tallies g calls t) (flag : get_or t.called.items m false ≡ false) where
   -- the weights after a first call
@@ -84,20 +110,36 @@ module _ (g : Parts) (calls : List ℕ) (m : ℕ) (t : Tally) (within : m < leng
       (cases_eq m k)
 
   -- the tally after a first call
-  pub tallies_more : (u : Tally) → u.called.items ≡ set t.called.items m true → u.dark.items ≡ weights → length u.rows.items ≡ length t.rows.items
-      → IsLeastCost (problem_with g (λ n. get_or u.dark.items n 0)) u.cost → Tallies g (m ∷ calls) u
-  tallies_more u flags dark rows least = record {
+  pub tallies_more : IsInTreeOrder (network_of g) → (u : Tally) → u.called.items ≡ set t.called.items m true → u.dark.items ≡ weights
+      → u.live.items ≡ t.live.items → u.closed.items ≡ t.closed.items → u.marks.items ≡ t.marks.items
+      → Judges (posed_by.problem_of g u.closed.items u.marks.items u.dark.items u.live.items) u.judged → Tallies g (m ∷ calls) u
+  tallies_more order u flags dark live closed marks judges = record {
     sound = tallied.sound;
     meters = ap length flags ∙ length-set t.called.items m true ∙ tallied.meters;
     called = λ k l. ap (λ xs. get_or xs k false) flags ∙ flags_are k l;
     nodes = ap length dark ∙ length-set t.dark.items (node_of g m) (get_or t.dark.items (node_of g m) 0 + setting_of g Call) ∙ tallied.nodes;
     dark = weighs;
-    rows = rows ∙ tallied.rows;
-    cost = least_is g (m ∷ calls) tallied.sound (λ n. get_or u.dark.items n 0) u.cost weighs least;
+    live = live ∙ tallied.live;
+    closed = closed ∙ tallied.closed;
+    marks = marks ∙ tallied.marks;
+    judged = at_calls.judged;
+    opened = opened_is;
+    cost = at_calls.cost ∙ ap (cost (problem_of g (m ∷ calls))) opened_is ∙ diagnosis_costs g (m ∷ calls) tallied.sound;
   }
     where
       weighs : (n : ℕ) → get_or u.dark.items n 0 ≡ dark_at g (m ∷ calls) n
       weighs n = ap (λ xs. get_or xs n 0) dark ∙ weights_are n
+
+      at_calls : Judges (problem_of g (m ∷ calls)) u.judged
+      at_calls =
+          let poses = ap (λ xs. posed_by.problem_of g xs u.marks.items u.dark.items u.live.items) (closed ∙ tallied.closed)
+          ∙ ap (λ xs. posed_by.problem_of g (replicate (length g.devices) true) xs u.dark.items u.live.items) (marks ∙ tallied.marks)
+          ∙ ap (λ xs. posed_by.problem_of g (replicate (length g.devices) true) (replicate (length g.devices) Nothing) u.dark.items xs) (live ∙ tallied.live)
+          ∙ poses_calls g (m ∷ calls) order u.dark.items weighs in
+          subst (λ p. Judges p u.judged) poses judges
+
+      opened_is : opened_by u.judged ≡ diagnosis_of g (m ∷ calls)
+      opened_is = diagnosis_is g (m ∷ calls) tallied.sound (opened_by u.judged) at_calls.diagnosis at_calls.within
 
   pub weights_small : sum weights ≤ 1000000000000
   weights_small = sum_small g (m ∷ calls) tallied.sound weights weights_are
@@ -109,22 +151,23 @@ module _ (g : Parts) (calls : List ℕ) (m : ℕ) (t : Tally) (within : m < leng
       let old = get_or_read t.dark.items meter.node.0 x (place_within g calls m t within tallied meter is) read 0 in
       cc
 
-replicate_same : {X : Type 0} (n i : ℕ) (a : X) → get_or (replicate n a) i a ≡ a
-replicate_same n i a =
-    ⊎_elim
-    (λ l. get_or-replicate n i a a l)
-    (λ l. get_or_past (replicate n a) i a (let e = length-replicate n a in omega arith))
-    (cases_lt i n)
-
 -- the tally of no calls
 pub tallies_none : (g : Parts) (t : Tally) → IsSoundParts g → t.called.items ≡ replicate (length g.meters) false → t.dark.items ≡ replicate (length g.nodes) 0
-    → t.rows.items ≡ replicate (length g.nodes) 0 → t.cost ≡ 0 → Tallies g [] t
-tallies_none g t sound flags dark rows cost = record {
-  sound = sound;
-  meters = ap length flags ∙ length-replicate (length g.meters) false;
-  called = λ m l. ap (λ xs. get_or xs m false) flags ∙ replicate_same (length g.meters) m false;
-  nodes = ap length dark ∙ length-replicate (length g.nodes) 0;
-  dark = λ n. ap (λ xs. get_or xs n 0) dark ∙ replicate_same (length g.nodes) n 0 ∙ sym (dark_none g n);
-  rows = ap length rows ∙ length-replicate (length g.nodes) 0;
-  cost = cost ∙ least_none g sound;
-}
+    → t.live.items ≡ replicate (length g.nodes) 0 → t.closed.items ≡ replicate (length g.devices) true → t.marks.items ≡ replicate (length g.devices) Nothing
+    → Judges (problem_with g (λ n. 0)) t.judged → Tallies g [] t
+tallies_none g t sound flags dark live closed marks judges =
+    let at_none = subst (λ p. Judges p t.judged) (poses_none g) judges in
+    let opened_is = diagnosis_is g [] sound (opened_by t.judged) at_none.diagnosis at_none.within in
+    record {
+      sound = sound;
+      meters = ap length flags ∙ length-replicate (length g.meters) false;
+      called = λ m l. ap (λ xs. get_or xs m false) flags ∙ replicate_same (length g.meters) m false;
+      nodes = ap length dark ∙ length-replicate (length g.nodes) 0;
+      dark = λ n. ap (λ xs. get_or xs n 0) dark ∙ replicate_same (length g.nodes) n 0 ∙ sym (dark_none g n);
+      live = live;
+      closed = closed;
+      marks = marks;
+      judged = at_none.judged;
+      opened = opened_is;
+      cost = at_none.cost ∙ ap (cost (problem_of g [])) opened_is ∙ diagnosis_costs g [] sound;
+    }

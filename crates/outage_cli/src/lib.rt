@@ -1,17 +1,21 @@
-//! The top call over a shelf and a sink: from the bytes of two files to the bytes written and the status.
+//! The top call over a shelf and a sink: from the bytes of the files to the bytes written and the
+//! status.
 #![tactic(auto)]
 
+mod bounds;
+mod check_run;
 mod draft;
 mod event_line;
 mod grid_reader;
 mod kinds;
 mod main_call;
 mod replay;
+mod replay_run;
 mod rows;
-mod run;
 mod stamps;
 mod status;
 mod tally;
+mod told;
 mod whole;
 mod words;
 

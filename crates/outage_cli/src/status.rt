@@ -3,6 +3,8 @@ ghost use Rattle.std.specs.Prelude.{◌≡◌};
 ghost use Rattle.outage_cli.specs.Number.{status_number};
 
 use crate::GridRule;
+use bound_checker::CheckRule;
+use bound_table::BoundRule;
 use thiserror::Error;
 
 /// The limits that a run can meet.
@@ -14,6 +16,9 @@ pub enum Which {
     /// The events have more bytes than may be read.
     #[error("EventBytes")]
     EventBytes,
+    /// The report has more bytes than may be read.
+    #[error("ReportBytes")]
+    ReportBytes,
 }
 
 /// How a run ends.
@@ -21,6 +26,8 @@ pub enum Which {
 pub enum Status {
     /// All was read, and all was written.
     Done,
+    /// The check found bounds that don't show the least cost, by the first rule that is broken.
+    Invalid { rule: CheckRule },
     /// The command words are of no form.
     Usage,
     /// The shelf failed.
@@ -29,6 +36,8 @@ pub enum Status {
     WriteFault,
     /// The network text is refused at its first line that breaks a rule.
     NetworkRefused { line: u32, rule: GridRule },
+    /// The report is refused at its first line that breaks a rule.
+    ReportRefused { line: u32, rule: BoundRule },
     /// A file is longer than its limit.
     Limit { which: Which },
     /// Memory ran out.
@@ -42,10 +51,12 @@ impl Status {
     {
         match self {
             Status::Done => 0,
+            Status::Invalid { .. } => 1,
             Status::Usage => 2,
             Status::ReadFault => 3,
             Status::WriteFault => 4,
             Status::NetworkRefused { .. } => 5,
+            Status::ReportRefused { .. } => 6,
             Status::Limit { .. } => 7,
             Status::Memory => 8,
         }

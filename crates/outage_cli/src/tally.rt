@@ -1,63 +1,113 @@
-//! The calls so far, and the least cost of an explanation of them.
-ghost use Rattle.std.specs.Prelude.{◌≡◌, ◌<◌, ℕ, List, [], ◌∷◌, length, IfOk};
+//! The calls so far, and the diagnosis that explains them.
+ghost use Rattle.std.specs.Prelude.{◌≡◌, ◌<◌, ℕ, List, [], ◌∷◌, length, map, true, false, IfOk};
 ghost use Rattle.outage_rules.specs.TreeOrder.{IsInTreeOrder};
 ghost use Rattle.grid_model.specs.Parts.{Parts};
 ghost use Rattle.grid_model.specs.Network.{network_of};
-ghost use Rattle.event_rules.specs.Calls.{least_of};
+ghost use Rattle.event_rules.specs.Calls.{problem_of, least_of};
+ghost use Rattle.diagnosis.specs.Judgement.{differences};
+ghost use Rattle.bound_table.specs.Sound.{IsTableOf};
+ghost use Rattle.bound_checker.specs.Claimed.{table_of, cut_of};
+ghost use Rattle.bound_checker.specs.Verdict.{verdict_of};
 ghost use Rattle.outage_cli.specs.Tallied.{Tallies, IsTally};
 
-use diagnosis::least_with_rows;
-use grid_model::{Grid, MeterId, Setting};
+use bound_checker::Verdict;
+use bound_table::Bounds;
+use diagnosis::Judged;
+use grid_model::{Grid, Mark, MeterId, Setting};
 use std::alloc::{AllocError, Global};
 
-/// The meters that called, and the least cost of an explanation of their calls.
+/// The meters that called, and the diagnosis of their calls.
 #[derive(Drop)]
 pub(crate) struct Tally {
     /// One flag a meter: whether it called.
     called: Vec<bool>,
     /// One sum a node: what the calls of its meters weigh.
     dark: Vec<u64>,
-    /// Room for the rows of a diagnosis, one a node.
-    rows: Vec<u64>,
-    /// The least cost.
-    cost: u64,
+    /// One sum a node: what the reports that it is live weigh, and there are none.
+    live: Vec<u64>,
+    /// One flag a device: whether it is closed, as all are.
+    closed: Vec<bool>,
+    /// One mark a device: nothing is known of any.
+    marks: Vec<Mark>,
+    /// The diagnosis.
+    judged: Judged,
 }
 
 impl Tally {
     /// No calls yet.
     pub(crate) fn new(alloc: Global, grid: &Grid) -> Result<Tally, AllocError>
+        requires order { IsInTreeOrder (network_of grid.now) }
         ensures { IfOk result (λ tally. Tallies grid.now [] tally) }
     {
         let nodes = grid.nodes() as usize;
+        let devices = grid.devices() as usize;
         Ok(Tally {
             called: vec![in alloc; false; grid.meters() as usize]?,
             dark: vec![in alloc; 0; nodes]?,
-            rows: vec![in alloc; 0; nodes]?,
-            cost: 0,
+            live: vec![in alloc; 0; nodes]?,
+            closed: vec![in alloc; true; devices]?,
+            marks: vec![in alloc; Mark::Nothing; devices]?,
+            judged: Judged::new(alloc, grid)?,
         })
+    }
+
+    /// The diagnosis of the calls.
+    pub(crate) fn judged(&self) -> &Judged
+        ensures { result.now ≡ self.now.judged }
+    {
+        &self.judged
     }
 
     /// The least cost of an explanation of the calls.
     pub(crate) fn cost(&self) -> u64
         ensures { (g : Parts) (calls : List ℕ) → Tallies g calls self.now → result ≡ least_of g calls }
     {
-        self.cost
+        self.judged.cost()
     }
 
-    /// Adds a call. It changes nothing where the meter called before.
-    pub(crate) fn call(&mut self, grid: &Grid, meter: MeterId)
+    /// Adds a call, and says whether the network was judged anew: a call of a meter that called
+    /// before changes nothing.
+    pub(crate) fn call(&mut self, grid: &Grid, meter: MeterId) -> bool
         requires order { IsInTreeOrder (network_of grid.now) }
         requires known { meter.0 < length grid.now.meters }
         requires tally { IsTally grid.now self.old }
-        ensures { (calls : List ℕ) → Tallies grid.now calls self.old → Tallies grid.now (meter.0 ∷ calls) self.new }
+        ensures tally { (calls : List ℕ) → Tallies grid.now calls self.old → Tallies grid.now (meter.0 ∷ calls) self.new }
+        ensures changed { result ≡ true → map (λ d. d.0) self.new.judged.changed ≡ differences self.old.judged.opened self.new.judged.opened }
+        ensures unchanged { result ≡ false → self.new.judged ≡ self.old.judged }
     {
         let place = meter.0 as usize;
         if self.called[place] {
-            return;
+            return false;
         }
         self.called[place] = true;
         let node = grid.meter(meter).node;
         self.dark[node.0 as usize] += grid.setting(Setting::Call);
-        self.cost = least_with_rows(grid, &self.dark, &mut self.rows);
+        self.judged
+            .recompute(grid, &self.closed, &self.marks, &self.dark, &self.live);
+        true
+    }
+
+    /// The verdict of the local check on bounds: whether they show the least cost of the calls.
+    pub(crate) fn check(
+        &self,
+        alloc: Global,
+        grid: &Grid,
+        bounds: &Bounds,
+    ) -> Result<Verdict, AllocError>
+        requires order { IsInTreeOrder (network_of grid.now) }
+        requires tally { IsTally grid.now self.now }
+        requires of_network { IsTableOf grid.now bounds.now }
+        ensures { IfOk result (λ verdict. (calls : List ℕ) → Tallies grid.now calls self.now
+            → verdict ≡ verdict_of (problem_of grid.now calls) (table_of (length grid.now.devices) bounds.now.rows) (cut_of bounds.now.cuts) bounds.now.cost) }
+    {
+        bound_checker::check(
+            alloc,
+            grid,
+            &self.closed,
+            &self.marks,
+            &self.dark,
+            &self.live,
+            bounds,
+        )
     }
 }

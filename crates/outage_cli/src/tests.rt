@@ -1,5 +1,7 @@
 //! Worked runs over files and an output in memory.
 use crate::{GridRule, Status, outage_main};
+use bound_checker::CheckRule;
+use bound_table::BoundRule;
 use outage_ports::{MemoryShelf, MemorySink, Mishap};
 use std::alloc::{AllocError, Global};
 use std::process::Abort;
@@ -64,7 +66,7 @@ fn replays(rt: HostRuntime) -> Result<(), Fail> {
             net: NET,
             events: CALLS,
             status: Status::Done,
-            written: "cost,1,30\ncost,2,40\ntotal,40\nend\n",
+            written: "cost,1,30\nenters,2,F1\ncost,2,40\ntotal,40\nend\n",
         },
         Case {
             net: NET,
@@ -159,5 +161,123 @@ fn read_fails_midway(rt: HostRuntime) -> Result<(), Fail> {
     let status = outage_main(alloc, &given, &mut failing, &mut out);
     assert_eq!(rt; status, Status::ReadFault);
     assert_eq!(rt; out.bytes(), b"".as_slice());
+    Ok(())
+}
+
+// The report of the worked run: its entries, and its bounds part with these lines.
+const ENTRIES: &str = "cost,1,30\nenters,2,F1\ncost,2,40\ntotal,40\nend\n";
+
+const BOUNDS: &str = "bounds,40\ncut,F1\nrow,S,-,0,40,0\nrow,A,B1,1,40,0\nrow,C,F1,2,60,0\n\
+row,D,T1,2,0,0\nrow,E,T2,2,0,0\nendbounds\n";
+
+// The report of the worked run with another bounds part.
+fn report(alloc: Global, bounds: &str) -> Result<String, AllocError> {
+    let mut text = String::from_str(alloc, ENTRIES)?;
+    text.push_str(bounds)?;
+    Ok(text)
+}
+
+#[test]
+fn prints_bounds(rt: HostRuntime) -> Result<(), Fail> {
+    let alloc = rt.alloc();
+    let mut files = shelf(alloc, NET, CALLS)?;
+    let mut out = MemorySink::new(alloc, Vec::new(alloc), 7, 400)?;
+    let given = words(alloc, &["outage", "replay", "n", "e", "--bounds"])?;
+    let status = outage_main(alloc, &given, &mut files, &mut out);
+    assert!(rt; status == Status::Done);
+    let want = report(alloc, BOUNDS)?;
+    assert!(rt; out.bytes() == want.as_bytes());
+    Ok(())
+}
+
+// What a check of a report with this bounds part answers and writes.
+fn check_case(
+    rt: &impl Abort,
+    alloc: Global,
+    bounds: &str,
+    want: Status,
+    written: &str,
+) -> Result<(), AllocError> {
+    let mut files = Vec::new(alloc);
+    files.push(file(alloc, "n", NET)?)?;
+    files.push(file(alloc, "e", CALLS)?)?;
+    let text = report(alloc, bounds)?;
+    files.push(file(alloc, "r", text.as_str())?)?;
+    let mut given_files = MemoryShelf::new(files, Vec::new(alloc), 5);
+    let mut out = MemorySink::new(alloc, Vec::new(alloc), 7, 400)?;
+    let given = words(alloc, &["outage", "check", "n", "e", "r"])?;
+    let status = outage_main(alloc, &given, &mut given_files, &mut out);
+    assert!(rt; status == want);
+    assert!(rt; out.bytes() == written.as_bytes());
+    Ok(())
+}
+
+fn invalid(rule: CheckRule) -> Status {
+    Status::Invalid { rule }
+}
+
+fn refused(line: u32, rule: BoundRule) -> Status {
+    Status::ReportRefused { line, rule }
+}
+
+#[test]
+fn checks_costs(rt: HostRuntime) -> Result<(), Fail> {
+    let alloc = rt.alloc();
+    check_case(&rt, alloc, BOUNDS, Status::Done, "valid\n")?;
+    let live =
+        "bounds,40\ncut,F1\nrow,S,-,0,40,0\nrow,A,B1,1,40,0\nrow,C,F1,2,61,0\nrow,D,T1,2,0,0\nrow,E,T2,2,0,0\nendbounds\n";
+    check_case(
+        &rt,
+        alloc,
+        live,
+        invalid(CheckRule::LiveRow),
+        "invalid,LiveRow,C\n",
+    )?;
+    let dear =
+        "bounds,41\ncut,F1\nrow,S,-,0,40,0\nrow,A,B1,1,40,0\nrow,C,F1,2,60,0\nrow,D,T1,2,0,0\nrow,E,T2,2,0,0\nendbounds\n";
+    check_case(
+        &rt,
+        alloc,
+        dear,
+        invalid(CheckRule::CutCost),
+        "invalid,CutCost,-\n",
+    )?;
+    let cut =
+        "bounds,40\ncut,B1\nrow,S,-,0,40,0\nrow,A,B1,1,40,0\nrow,C,F1,2,60,0\nrow,D,T1,2,0,0\nrow,E,T2,2,0,0\nendbounds\n";
+    check_case(
+        &rt,
+        alloc,
+        cut,
+        invalid(CheckRule::CutCost),
+        "invalid,CutCost,-\n",
+    )?;
+    let none =
+        "bounds,40\ncut,F1\nrow,S,-,0,0,0\nrow,A,B1,1,0,0\nrow,C,F1,2,0,0\nrow,D,T1,2,0,0\nrow,E,T2,2,0,0\nendbounds\n";
+    check_case(
+        &rt,
+        alloc,
+        none,
+        invalid(CheckRule::Total),
+        "invalid,Total,-\n",
+    )?;
+    Ok(())
+}
+
+#[test]
+fn checks_forms(rt: HostRuntime) -> Result<(), Fail> {
+    let alloc = rt.alloc();
+    let stray =
+        "bounds,40\ncut,F1\nrow,S,-,0,40,0\nrow,A,B1,1,40,0\nrow,C,F1,2,60,0\nrow,E,T2,2,0,0\nendbounds\n";
+    check_case(
+        &rt,
+        alloc,
+        stray,
+        invalid(CheckRule::StrayDevice),
+        "invalid,StrayDevice,T1\n",
+    )?;
+    let unended =
+        "bounds,40\ncut,F1\nrow,S,-,0,40,0\nrow,A,B1,1,40,0\nrow,C,F1,2,60,0\nrow,D,T1,2,0,0\nrow,E,T2,2,0,0\n";
+    check_case(&rt, alloc, unended, refused(13, BoundRule::NoEnd), "")?;
+    check_case(&rt, alloc, "", refused(6, BoundRule::NoBounds), "")?;
     Ok(())
 }

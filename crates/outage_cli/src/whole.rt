@@ -16,6 +16,12 @@ pub enum Stop {
 
 const PIECE: usize = 4096;
 
+/// The greatest number of bytes of a network or an event file.
+pub const MOST_BYTES: usize = 1_048_576;
+
+/// The greatest number of bytes of a report.
+pub const MOST_REPORT: usize = 268_435_456;
+
 /// The bytes of a file, of which it may have at most so many.
 pub fn read_whole<S: Shelf>(
     alloc: Global,

@@ -181,8 +181,14 @@ module _ (p : Problem) (sound : IsSound p) where
     dark = λ n l on. (settled (suc p.nodes) n l on (omega arith)).1;
   }
 
+-- the computed table is a forest with exact rows
+pub exact_table : (p : Problem) → IsSound p → IsRadial p.net → IsForest p.net (table_of p) × HasExactRows p (table_of p)
+exact_table p sound radial =
+    let c = costs_within p (suc p.nodes) in
+    (forest_from_radial p.net (table_of p) sound.net (rooted p sound c) (whole p sound c) radial, rows p sound)
+
+-- so its cut is the diagnosis
 pub computed : (p : Problem) → IsSound p → IsRadial p.net → IsDiagnosis p (reference_cut p)
 computed p sound radial =
-    let c = costs_within p (suc p.nodes) in
-    let forest : IsForest p.net (table_of p) = forest_from_radial p.net (table_of p) sound.net (rooted p sound c) (whole p sound c) radial in
-    is_diagnosis p (table_of p) sound forest (rows p sound) (greedy p (table_of p)) (greedy_opens p (table_of p) sound forest)
+    let exact = exact_table p sound radial in
+    is_diagnosis p (table_of p) sound exact.0 exact.1 (greedy p (table_of p)) (greedy_opens p (table_of p) sound exact.0)

@@ -22,3 +22,5 @@ pub mod Closing
 pub mod Tree
 pub mod SummedRows
 pub mod Least
+pub mod Agreement
+pub mod Tight

@@ -6,3 +6,5 @@ pub mod Meters
 pub mod TreeOrder
 pub mod Laws
 pub mod Reference
+pub mod Agreement
+pub mod TightLaws

@@ -2,6 +2,8 @@
 #![tactic(auto)]
 
 ghost use Rattle.outage_rules.specs.Laws.{CheckIsSound, LiveIsAWalk, OneDiagnosis, RowIsLeast, FlagsAreDiagnosis, RadialIsForest, TestedIsDiagnosis, DiagnosisIsOne, ReferenceIsDiagnosis, RadialStays, TreeIsRadial, LeastCostIsLeast, OneLeastCost, SummedRowsAreLeast, NothingCostsNothing, EqualReportsEqualProblems};
+ghost use Rattle.outage_rules.specs.Agreement.{TablesAgree, ReferenceTableIsExact, ExactTableIsReference};
+ghost use Rattle.outage_rules.specs.TightLaws.{TightPasses, RowsAreBounded, LeastIsBounded, DistanceIsBounded};
 
 /// A table that passes the local check shows that no feasible cut costs less than its own.
 pub fn check_is_sound()
@@ -81,4 +83,39 @@ pub fn nothing_costs_nothing()
 /// Problems whose dark weights are equal at each node are equal.
 pub fn equal_reports_equal_problems()
     ensures { EqualReportsEqualProblems }
+{}
+
+/// In a radial network all tables with exact rows say the same of each node.
+pub fn tables_agree()
+    ensures { TablesAgree }
+{}
+
+/// The computed table of a radial network is a forest with exact rows.
+pub fn reference_table_is_exact()
+    ensures { ReferenceTableIsExact }
+{}
+
+/// In a radial network a forest with exact rows is the computed table.
+pub fn exact_table_is_reference()
+    ensures { ExactTableIsReference }
+{}
+
+/// In a radial network the computed table, its cut and its cost pass the local check.
+pub fn tight_passes()
+    ensures { TightPasses }
+{}
+
+/// No exact row costs more than all reports and all marked devices.
+pub fn rows_are_bounded()
+    ensures { RowsAreBounded }
+{}
+
+/// Nor does the least cost.
+pub fn least_is_bounded()
+    ensures { LeastIsBounded }
+{}
+
+/// A shortest walk has at most as many devices as there are nodes.
+pub fn distance_is_bounded()
+    ensures { DistanceIsBounded }
 {}

@@ -1,12 +1,10 @@
-use Rattle.std.proofs.Common.{◌≤◌, arith, refl, sym, ◌∙◌, subst, get_or, true, false, sum}
-use Rattle.std.specs.Vec.{with_items}
-use Rattle.outage_rules.specs.Diagnosis.{IsLeastCost}
-use Rattle.grid_model.specs.Network.{problem_with}
-use Rattle.outage_cli.proofs.TallyLaws.{flag_read, place_within, weight_fits, tallies_again, weights_small, written, tallies_more}
+use Rattle.std.proofs.Common.{◌≤◌, arith, refl, sym, ap, ◌∙◌, subst, true, false, sum}
+use Rattle.diagnosis.specs.Problem.{problem_of}
+use Rattle.outage_cli.proofs.TallyLaws.{Judges, flag_read, place_within, weight_fits, tallies_again, judged_is_sized, weights_small, written, tallies_more}
 use Rattle.outage_cli.proofs.tally.Tally.call.Goals as goal
 
-pub returns-then-index : goal.returns-then-index
-returns-then-index c = λ calls t.
+pub returns-then-index-clause-tally : goal.returns-then-index-clause-tally
+returns-then-index-clause-tally c = λ calls t.
     let flag = flag_read c.args.grid.now calls c.args.meter.0 c.args.self.now c.requires.known t c.index.result.now true c.index.ensures c.if-index.true in
     tallies_again c.args.grid.now calls c.args.meter.0 c.args.self.now c.requires.known t flag
 
@@ -21,18 +19,32 @@ overflow_add-index_mut c =
     let fits = weight_fits c.args.grid.now c.requires.tally.0 c.args.meter.0 c.args.self.now c.requires.known c.requires.tally.1 c.meter.result.node.0 c.index_mut-2.result.now c.setting.result within c.index_mut-2.ensures.value c.setting.ensures in
     omega arith
 
-pub least_with_rows-self-requires-clause-bound : goal.least_with_rows-self-requires-clause-bound
-least_with_rows-self-requires-clause-bound c =
+pub recompute-requires-clause-sized : goal.recompute-requires-clause-sized
+recompute-requires-clause-sized c = judged_is_sized c.args.grid.now c.requires.tally.0 c.args.meter.0 c.args.self.now c.requires.known c.requires.tally.1
+
+pub recompute-requires-clause-dark_bound : goal.recompute-requires-clause-dark_bound
+recompute-requires-clause-dark_bound c =
     let t = c.requires.tally.1 in
     let flag = flag_read c.args.grid.now c.requires.tally.0 c.args.meter.0 c.args.self.now c.requires.known t c.index.result.now false c.index.ensures c.if-index.false in
     let weights = written c.args.grid.now c.requires.tally.0 c.args.meter.0 c.args.self.now c.requires.known t flag c.meter.result c.index_mut-2.result.now c.setting.result c.meter.ensures c.index_mut-2.ensures.value c.setting.ensures in
-    subst (λ xs. sum xs ≤ 1000000000000) (sym (c.deref.ensures.value ∙ weights))
+    subst (λ xs. sum xs ≤ 1000000000000) (sym (c.deref-3.ensures.value ∙ weights))
     (weights_small c.args.grid.now c.requires.tally.0 c.args.meter.0 c.args.self.now c.requires.known t flag)
 
-pub returns : goal.returns
-returns c = λ calls t.
-    let flag = flag_read c.args.grid.now calls c.args.meter.0 c.args.self.now c.requires.known t c.index.result.now false c.index.ensures c.if-index.false in
-    let weights = written c.args.grid.now calls c.args.meter.0 c.args.self.now c.requires.known t flag c.meter.result c.index_mut-2.result.now c.setting.result c.meter.ensures c.index_mut-2.ensures.value c.setting.ensures in
-    tallies_more c.args.grid.now calls c.args.meter.0 c.args.self.now c.requires.known t flag _ refl weights
-    (sym (with_items c.args.self.now.rows c.least_with_rows-self.new.rows).ok.0 ∙ c.args.self.now.rows.ok.0)
-    (subst (λ xs. IsLeastCost (problem_with c.args.grid.now (λ n. get_or xs n 0)) c.least_with_rows-self.result) c.deref.ensures.value c.least_with_rows-self.ensures)
+pub returns-clause-tally : goal.returns-clause-tally
+returns-clause-tally c = λ calls t.
+    let g = c.args.grid.now in
+    let flag = flag_read g calls c.args.meter.0 c.args.self.now c.requires.known t c.index.result.now false c.index.ensures c.if-index.false in
+    let weights = written g calls c.args.meter.0 c.args.self.now c.requires.known t flag c.meter.result c.index_mut-2.result.now c.setting.result c.meter.ensures c.index_mut-2.ensures.value c.setting.ensures in
+    let judges : Judges (problem_of g c.deref.result.now c.deref-2.result.now c.deref-3.result.now c.deref-4.result.now) c.recompute.new.self = record {
+      judged = c.recompute.ensures.judged;
+      diagnosis = c.recompute.ensures.diagnosis;
+      within = c.recompute.ensures.within;
+      cost = c.recompute.ensures.cost;
+    } in
+    let poses =
+    ap (λ xs. problem_of g xs c.deref-2.result.now c.deref-3.result.now c.deref-4.result.now) c.deref.ensures.value
+    ∙ ap (λ xs. problem_of g c.args.self.now.closed.items xs c.deref-3.result.now c.deref-4.result.now) c.deref-2.ensures.value
+    ∙ ap (λ xs. problem_of g c.args.self.now.closed.items c.args.self.now.marks.items xs c.deref-4.result.now) c.deref-3.ensures.value
+    ∙ ap (problem_of g c.args.self.now.closed.items c.args.self.now.marks.items _) c.deref-4.ensures.value in
+    tallies_more g calls c.args.meter.0 c.args.self.now c.requires.known t flag c.requires.order _ refl weights refl refl refl
+    (subst (λ p. Judges p c.recompute.new.self) poses judges)

@@ -3,7 +3,7 @@ use Rattle.std.proofs.Common.{rules, ◌≡◌, ◌∙◌}
 use Rattle.std.proofs.lemmas.Result.{err_from_is_err_and}
 use Rattle.bound_table.specs.Report.{Inside, Ended, report_reading, after_text, bare_table}
 use Rattle.bound_table.proofs.ReportSteps.{after_text-whole, after_text-more}
-use Rattle.bound_table.proofs.read.read_bounds.Goals as goal
+use Rattle.bound_table.proofs.read.read_table.Goals as goal
 
 pub returns-in_err-cost-clause-refused : goal.returns-in_err-cost-clause-refused
 returns-in_err-cost-clause-refused c =
