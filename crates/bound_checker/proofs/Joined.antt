@@ -9,7 +9,7 @@ use Rattle.grid_model.specs.Sound.{IsSoundParts}
 use Rattle.grid_model.specs.declared.history.Mark.{Mark}
 use Rattle.bound_checker.specs.declared.rules.Verdict.{Verdict}
 use Rattle.bound_checker.specs.declared.rules.Verdict.TheVariants.{Valid}
-use Rattle.bound_checker.specs.Claimed.{problem_of}
+use Rattle.grid_model.specs.Problem.{problem_of}
 use Rattle.bound_checker.specs.Verdict.{cut_trials, forest_trials, row_trials, cost_trials, first_failed, verdict_of}
 use Rattle.bound_checker.proofs.Trials.{before, behind}
 use Rattle.bound_checker.proofs.Passed.{valid_certifies}

@@ -1,5 +1,5 @@
 -- Where no condition fails, the table passes the check.
-use Rattle.std.proofs.Common.{◌≡◌, ℕ, suc, ◌<◌, Bool, true, false, List, length, get_or, refl, sym, ◌∙◌, inl, inr, ⊎_elim}
+use Rattle.std.proofs.Common.{◌≡◌, ℕ, suc, ◌<◌, Bool, true, false, List, length, get_or, refl, sym, ◌∙◌, inl, inr, ⊎_elim, slice_index_or}
 use Rattle.std.specs.Prelude.{◌&&◌, ◌||◌, not, ◌==◌, nat_lt, ◌⊎◌, [], ◌∷◌, ◌++◌, None}
 use Rattle.std.proofs.lemmas.Bool.{or_cases, and_parts, eqb-true, not-true, ltb-true, ltb-false}
 use Rattle.outage_rules.specs.Sum.{some_below}
@@ -11,16 +11,17 @@ use Rattle.outage_rules.proofs.Sums.{some_below_true}
 use Rattle.outage_rules.proofs.Checked.{certified}
 use Rattle.grid_model.specs.Parts.{Parts}
 use Rattle.grid_model.specs.Sound.{IsSoundParts}
-use Rattle.grid_model.specs.Network.{network_of}
+use Rattle.grid_model.specs.Network.{network_of, network_in}
 use Rattle.grid_model.specs.declared.history.Mark.{Mark}
 use Rattle.grid_model.specs.declared.history.Mark.TheVariants.{Nothing, Opened, Fine}
 use Rattle.grid_model.proofs.SoundParts.{sound_network}
 use Rattle.bound_checker.specs.declared.rules.CheckRule.TheVariants.{NotClosed, MarkedOk, MissingOpen, BadSource, BadParent, StrayDevice, LiveRow, DarkRow, CutCost, Total}
 use Rattle.bound_checker.specs.declared.rules.Verdict.TheVariants.{Valid}
-use Rattle.bound_checker.specs.Claimed.{problem_of, network_with, is_opened, is_fine}
+use Rattle.grid_model.specs.Problem.{problem_of, says_opened, says_fine}
 use Rattle.bound_checker.specs.Chains.{AllHang}
 use Rattle.bound_checker.specs.Conditions.{is_not_closed, is_cut_though_ok, is_missing, is_bad_source, has_bad_parent, is_stray, most_live, most_dark, is_live_above, is_dark_above, costs_otherwise, adds_up_otherwise}
 use Rattle.bound_checker.specs.Verdict.{at_device, at_node, by_device, by_node, on_the_whole, cut_trials, forest_trials, row_trials, cost_trials, first_below, first_failed, verdict_of}
+use Rattle.bound_checker.specs.Laws.{SourcesHaveNoParent}
 use Rattle.bound_checker.proofs.FirstBelow.{fails_below}
 use Rattle.bound_checker.proofs.Trials.{both_hold, parts_hold, no_place, not_failed}
 
@@ -105,9 +106,9 @@ pub parents_hold : (g : Network) (t : Table) → first_below g.nodes (has_bad_pa
 parents_hold g t e n l h =
     hung g t n (unless (has_parent g t n) (test_parent g t n) (fails_below g.nodes (has_bad_parent g t) e n l) h)
 
-pub all_hang : (g : Parts) (closed : List Bool) (t : Table) → first_below (length g.nodes) (has_bad_parent (network_with g closed) t) ≡ None → AllHang (network_of g) t
+pub all_hang : (g : Parts) (closed : List Bool) (t : Table) → first_below (length g.nodes) (has_bad_parent (network_in g (λ d. slice_index_or closed d false)) t) ≡ None → AllHang (network_of g) t
 all_hang g closed t e n l h =
-    let a = parents_hold (network_with g closed) t e n l h in
+    let a = parents_hold (network_in g (λ d. slice_index_or closed d false)) t e n l h in
     record { within = a.within; listed = a.listed; deeper = a.deeper }
 
 module _ (p : Problem) (t : Table) (cut : Cut) (c : ℕ) (valid : verdict_of p t cut c ≡ Valid) where
@@ -128,12 +129,18 @@ module _ (p : Problem) (t : Table) (cut : Cut) (c : ℕ) (valid : verdict_of p t
         fine = λ d l e. apart (cut d) (p.marked_ok d) (fails_below p.devices (is_cut_though_ok p cut) a.1 d l) e;
       }
 
-  source : (n : ℕ) → n < p.nodes → p.is_source n ≡ true → (t.is_listed n ≡ true) × (t.depth n ≡ 0)
-  source n l e =
+  source_row : (n : ℕ) → n < p.nodes → p.is_source n ≡ true → (t.is_listed n ≡ true) × (t.parent n ≡ p.devices) × (t.depth n ≡ 0)
+  source_row n l e =
       let a = unless (p.is_source n) (t.is_listed n && (t.parent n == p.devices && t.depth n == 0)) (fails_below p.nodes (is_bad_source p.net t) (forest_holds p.net t parts.1).0 n l) e in
       let b = and_parts (t.is_listed n) (t.parent n == p.devices && t.depth n == 0) a in
       let d = and_parts (t.parent n == p.devices) (t.depth n == 0) b.1 in
-      (b.0, eqb-true (t.depth n) 0 d.1)
+      (b.0, eqb-true (t.parent n) p.devices d.0, eqb-true (t.depth n) 0 d.1)
+
+  pub no_parents : SourcesHaveNoParent p.net t
+  no_parents = λ n l e. (source_row n l e).1
+
+  source : (n : ℕ) → n < p.nodes → p.is_source n ≡ true → (t.is_listed n ≡ true) × (t.depth n ≡ 0)
+  source n l e = let a = source_row n l e in (a.0, a.2)
 
   stray : (d : ℕ) → d < p.devices → p.is_closed d ≡ true →
       ((n : ℕ) × (n < p.nodes) × (has_parent p.net t n ≡ true) × (t.parent n ≡ d)) ⊎ ((t.is_listed (p.from d) ≡ false) × (t.is_listed (p.to d) ≡ false))
@@ -170,7 +177,7 @@ module _ (p : Problem) (t : Table) (cut : Cut) (c : ℕ) (valid : verdict_of p t
         total_cost = sym (eqb-true (bound_of p t) c (not-not (bound_of p t == c) a.1));
       }
 
-not_both : (mark : Mark) → is_opened mark ≡ true → is_fine mark ≡ false
+not_both : (mark : Mark) → says_opened mark ≡ true → says_fine mark ≡ false
 not_both Nothing e = refl
 not_both Opened e = refl
 not_both Fine e = absurd (let x : ⊥ = cc in x)

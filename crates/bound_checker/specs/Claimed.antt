@@ -1,48 +1,13 @@
--- The problem that the field poses, and the table and the cut that bounds claim.
-use Rattle.std.specs.Prelude.{ℕ, Bool, true, false, ◌==◌, List, [], ◌∷◌, length, slice_index, slice_index_or, Option, Some, None, if◌then◌else◌}
+-- The table and the cut that bounds claim.
+use Rattle.std.specs.Prelude.{ℕ, Bool, true, false, ◌==◌, List, [], ◌∷◌, slice_index_or, Option, Some, None, if◌then◌else◌}
 use Rattle.std.specs.List.{list_any}
-use Rattle.outage_rules.specs.Network.{Network, Problem, Cut}
+use Rattle.outage_rules.specs.Network.{Cut}
 use Rattle.outage_rules.specs.Certificate.{Table}
-use Rattle.grid_model.specs.Parts.{Parts}
-use Rattle.grid_model.specs.Places.{device_at, is_source}
 use Rattle.grid_model.specs.declared.parts.DeviceId.{DeviceId}
-use Rattle.grid_model.specs.declared.history.Mark.{Mark}
-use Rattle.grid_model.specs.declared.history.Mark.TheVariants.{Nothing, Opened, Fine}
 use Rattle.bound_table.specs.declared.bounds.BoundRow.{BoundRow}
 use Rattle.bound_checker.specs.declared.claims.Claim.{Claim}
 
-abbrev pub is_opened : Mark → Bool
-is_opened Nothing = false
-is_opened Opened = true
-is_opened Fine = false
-
-abbrev pub is_fine : Mark → Bool
-is_fine Nothing = false
-is_fine Opened = false
-is_fine Fine = true
-
--- the network with these devices closed
-abbrev pub network_with : Parts → List Bool → Network
-network_with g closed = record {
-  nodes = length g.nodes;
-  devices = length g.devices;
-  from = λ d. (device_at g d).from.0;
-  to = λ d. (device_at g d).to.0;
-  is_source = is_source g;
-  is_closed = λ d. slice_index_or closed d false;
-}
-
--- the devices that are closed and the marks, by device, and the weights of the dark and of the live reports, by node
-abbrev pub problem_of : Parts → List Bool → List Mark → List ℕ → List ℕ → Problem
-problem_of g closed marks dark live = record {
-  net = network_with g closed;
-  weight = λ d. (device_at g d).weight;
-  marked_open = λ d. is_opened (slice_index_or marks d Nothing);
-  marked_ok = λ d. is_fine (slice_index_or marks d Nothing);
-  dark_weight = λ n. slice_index dark n;
-  live_weight = λ n. slice_index live n;
-}
-
+-- the cut of devices that are named
 abbrev pub cut_of : List DeviceId → Cut
 cut_of cuts d = list_any (λ c. c.0 == d) cuts
 

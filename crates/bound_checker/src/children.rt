@@ -4,7 +4,8 @@ ghost use Rattle.outage_rules.specs.Sum.{total};
 ghost use Rattle.outage_rules.specs.Certificate.{has_parent, upper, is_child, choice, dark_share};
 ghost use Rattle.grid_model.specs.Network.{network_of};
 ghost use Rattle.bound_checker.specs.Chains.{AllHang};
-ghost use Rattle.bound_checker.specs.Claimed.{problem_of, table_in, is_opened, is_fine};
+ghost use Rattle.grid_model.specs.Problem.{problem_of, says_opened, says_fine};
+ghost use Rattle.bound_checker.specs.Claimed.{table_in};
 
 use crate::claims::Claim;
 use crate::forest::{has_parent, other_end};
@@ -12,7 +13,7 @@ use grid_model::{DeviceId, Grid, Mark};
 
 // What a child adds where the node above is live.
 fn choice_of(weight: u32, mark: Mark, live: u64, dark: u64) -> u128
-    ensures value { result ≡ (if is_opened mark then weight + dark else (if is_fine mark then live else min (weight + dark) live)) }
+    ensures value { result ≡ (if says_opened mark then weight + dark else (if says_fine mark then live else min (weight + dark) live)) }
     ensures small { result < 2 ^ 65 }
 {
     let open = u128::from(weight) + u128::from(dark);
@@ -26,7 +27,7 @@ fn choice_of(weight: u32, mark: Mark, live: u64, dark: u64) -> u128
 
 // What a child adds where the node above is dark.
 fn dark_share_of(weight: u32, mark: Mark, dark: u64) -> u128
-    ensures value { result ≡ dark + (if is_opened mark then weight else 0) }
+    ensures value { result ≡ dark + (if says_opened mark then weight else 0) }
     ensures small { result < 2 ^ 65 }
 {
     let own = u128::from(dark);

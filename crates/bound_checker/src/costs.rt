@@ -6,7 +6,8 @@ ghost use Rattle.grid_model.specs.Network.{network_of};
 ghost use Rattle.grid_model.specs.Places.{device_at, is_source};
 ghost use Rattle.grid_model.specs.Sound.{IsSoundParts};
 ghost use Rattle.bound_checker.specs.Chains.{AllHang, AreRight};
-ghost use Rattle.bound_checker.specs.Claimed.{problem_of, table_in, cut_in};
+ghost use Rattle.grid_model.specs.Problem.{problem_of};
+ghost use Rattle.bound_checker.specs.Claimed.{table_in, cut_in};
 ghost use Rattle.bound_checker.specs.Verdict.{first_failed, cost_trials};
 
 use crate::chains::is_lit;

@@ -1,6 +1,8 @@
 //! The conditions on the cut by itself.
-ghost use Rattle.std.specs.Prelude.{◌≡◌, length, []};
-ghost use Rattle.bound_checker.specs.Claimed.{problem_of, network_with, cut_in, is_fine, is_opened};
+ghost use Rattle.std.specs.Prelude.{◌≡◌, length, [], slice_index_or, false};
+ghost use Rattle.grid_model.specs.Network.{network_in};
+ghost use Rattle.grid_model.specs.Problem.{problem_of, says_fine, says_opened};
+ghost use Rattle.bound_checker.specs.Claimed.{cut_in};
 ghost use Rattle.bound_checker.specs.Conditions.{is_not_closed, is_cut_though_ok, is_missing};
 ghost use Rattle.bound_checker.specs.Verdict.{first_below, first_failed, cut_trials};
 
@@ -9,14 +11,14 @@ use grid_model::{Grid, Mark};
 
 // Whether a device is marked ok.
 fn is_fine(mark: Mark) -> bool
-    ensures { result ≡ is_fine mark }
+    ensures { result ≡ says_fine mark }
 {
     matches!(mark, Mark::Fine)
 }
 
 // Whether a device is marked open.
 fn is_opened(mark: Mark) -> bool
-    ensures { result ≡ is_opened mark }
+    ensures { result ≡ says_opened mark }
 {
     matches!(mark, Mark::Opened)
 }
@@ -25,7 +27,7 @@ fn is_opened(mark: Mark) -> bool
 fn first_not_closed(grid: &Grid, closed: &[bool], cuts: &[bool]) -> Option<u32>
     requires closed { length closed.now ≡ length grid.now.devices }
     requires cuts { length cuts.now ≡ length grid.now.devices }
-    ensures { result ≡ first_below (length grid.now.devices) (is_not_closed (network_with grid.now closed.now) (cut_in cuts.now)) }
+    ensures { result ≡ first_below (length grid.now.devices) (is_not_closed (network_in grid.now (λ d. slice_index_or closed.now d false)) (cut_in cuts.now)) }
 {
     for d in 0..grid.devices() {
         if cuts[d as usize] && !closed[d as usize] {

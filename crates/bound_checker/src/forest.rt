@@ -3,10 +3,10 @@ ghost use Rattle.std.specs.Prelude.{◌≡◌, ◌<◌, ◌==◌, ◌&&◌, ◌^
 ghost use Rattle.outage_rules.specs.Sum.{some_below};
 ghost use Rattle.outage_rules.specs.Certificate.{has_parent};
 ghost use Rattle.outage_rules.specs.Reference.{test_parent, test_stray};
-ghost use Rattle.grid_model.specs.Network.{network_of};
+ghost use Rattle.grid_model.specs.Network.{network_of, network_in};
 ghost use Rattle.grid_model.specs.Sound.{IsSoundParts};
 ghost use Rattle.bound_checker.specs.Chains.{AllHang};
-ghost use Rattle.bound_checker.specs.Claimed.{network_with, table_in};
+ghost use Rattle.bound_checker.specs.Claimed.{table_in};
 ghost use Rattle.bound_checker.specs.Conditions.{is_bad_source, has_bad_parent, is_stray};
 ghost use Rattle.bound_checker.specs.Verdict.{first_below, first_failed, forest_trials};
 
@@ -72,7 +72,7 @@ fn hangs(grid: &Grid, closed: &[bool], claims: &[Claim], n: u32) -> bool
     requires node { n < length grid.now.nodes }
     requires closed { length closed.now ≡ length grid.now.devices }
     requires claims { length claims.now ≡ length grid.now.nodes }
-    ensures { result ≡ test_parent (network_with grid.now closed.now) (table_in claims.now) n }
+    ensures { result ≡ test_parent (network_in grid.now (λ d. slice_index_or closed.now d false)) (table_in claims.now) n }
 {
     let claim = claims[n as usize];
     if claim.parent >= grid.devices() {
@@ -92,7 +92,7 @@ fn has_bad_parent(grid: &Grid, closed: &[bool], claims: &[Claim], n: u32) -> boo
     requires node { n < length grid.now.nodes }
     requires closed { length closed.now ≡ length grid.now.devices }
     requires claims { length claims.now ≡ length grid.now.nodes }
-    ensures { result ≡ has_bad_parent (network_with grid.now closed.now) (table_in claims.now) n }
+    ensures { result ≡ has_bad_parent (network_in grid.now (λ d. slice_index_or closed.now d false)) (table_in claims.now) n }
 {
     has_parent(grid, claims, n) && !hangs(grid, closed, claims, n)
 }
@@ -101,7 +101,7 @@ fn has_bad_parent(grid: &Grid, closed: &[bool], claims: &[Claim], n: u32) -> boo
 fn first_bad_parent(grid: &Grid, closed: &[bool], claims: &[Claim]) -> Option<u32>
     requires closed { length closed.now ≡ length grid.now.devices }
     requires claims { length claims.now ≡ length grid.now.nodes }
-    ensures { result ≡ first_below (length grid.now.nodes) (has_bad_parent (network_with grid.now closed.now) (table_in claims.now)) }
+    ensures { result ≡ first_below (length grid.now.nodes) (has_bad_parent (network_in grid.now (λ d. slice_index_or closed.now d false)) (table_in claims.now)) }
 {
     for n in 0..grid.nodes() {
         if has_bad_parent(grid, closed, claims, n) {
@@ -134,7 +134,7 @@ fn is_stray(grid: &Grid, closed: &[bool], claims: &[Claim], parents: &[bool], d:
     requires claims { length claims.now ≡ length grid.now.nodes }
     requires parents { length parents.now ≡ length grid.now.devices }
     requires flags { slice_index_or parents.now d false ≡ some_below (length grid.now.nodes) (λ n. has_parent (network_of grid.now) (table_in claims.now) n && ((table_in claims.now).parent n == d)) }
-    ensures { result ≡ is_stray (network_with grid.now closed.now) (table_in claims.now) d }
+    ensures { result ≡ is_stray (network_in grid.now (λ d. slice_index_or closed.now d false)) (table_in claims.now) d }
 {
     let device = grid.device(DeviceId(d));
     let from = claims[device.from.0 as usize];
@@ -150,7 +150,7 @@ fn first_stray(grid: &Grid, closed: &[bool], claims: &[Claim], parents: &[bool])
     requires claims { length claims.now ≡ length grid.now.nodes }
     requires parents { length parents.now ≡ length grid.now.devices }
     requires flags { (d : ℕ) → slice_index_or parents.now d false ≡ some_below (length grid.now.nodes) (λ n. has_parent (network_of grid.now) (table_in claims.now) n && ((table_in claims.now).parent n == d)) }
-    ensures { result ≡ first_below (length grid.now.devices) (is_stray (network_with grid.now closed.now) (table_in claims.now)) }
+    ensures { result ≡ first_below (length grid.now.devices) (is_stray (network_in grid.now (λ d. slice_index_or closed.now d false)) (table_in claims.now)) }
 {
     for d in 0..grid.devices() {
         if is_stray(grid, closed, claims, parents, d) {
@@ -181,7 +181,7 @@ pub(crate) fn verdict(
 ) -> Result<Verdict, AllocError>
     requires closed { length closed.now ≡ length grid.now.devices }
     requires claims { length claims.now ≡ length grid.now.nodes }
-    ensures { IfOk result (λ v. v ≡ first_failed (forest_trials (network_with grid.now closed.now) (table_in claims.now))) }
+    ensures { IfOk result (λ v. v ≡ first_failed (forest_trials (network_in grid.now (λ d. slice_index_or closed.now d false)) (table_in claims.now))) }
 {
     if let Some(n) = first_bad_source(grid, claims) {
         return Ok(Verdict::at_node(CheckRule::BadSource, n));

@@ -6,7 +6,8 @@ ghost use Rattle.grid_model.specs.Sound.{IsSoundParts};
 ghost use Rattle.outage_rules.specs.Certificate.{IsCertified};
 ghost use Rattle.bound_table.specs.Sound.{IsTableOf};
 ghost use Rattle.bound_checker.specs.declared.rules.Verdict.TheVariants.{Valid};
-ghost use Rattle.bound_checker.specs.Claimed.{problem_of, table_of, cut_of, table_in, cut_in};
+ghost use Rattle.grid_model.specs.Problem.{problem_of};
+ghost use Rattle.bound_checker.specs.Claimed.{table_of, cut_of, table_in, cut_in};
 ghost use Rattle.bound_checker.specs.Verdict.{verdict_of};
 
 mod chains;
@@ -22,7 +23,7 @@ mod rules;
 use bound_table::Bounds;
 use claims::Claim;
 use grid_model::{Grid, Mark};
-pub use laws::valid_is_certified;
+pub use laws::{tight_is_valid, valid_is_certified, valid_is_passed};
 pub use rules::{CheckRule, Place, Verdict};
 use std::alloc::{AllocError, Global};
 

@@ -4,7 +4,8 @@ ghost use Rattle.outage_rules.specs.Sum.{total};
 ghost use Rattle.outage_rules.specs.Certificate.{is_child, choice, dark_share};
 ghost use Rattle.grid_model.specs.Network.{network_of};
 ghost use Rattle.bound_checker.specs.Chains.{AllHang};
-ghost use Rattle.bound_checker.specs.Claimed.{problem_of, table_in};
+ghost use Rattle.grid_model.specs.Problem.{problem_of};
+ghost use Rattle.bound_checker.specs.Claimed.{table_in};
 ghost use Rattle.bound_checker.specs.Conditions.{is_live_above, is_dark_above};
 ghost use Rattle.bound_checker.specs.Verdict.{first_below, first_failed, row_trials};
 

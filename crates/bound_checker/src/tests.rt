@@ -3,7 +3,6 @@ ghost use Rattle.std.specs.Prelude.{◌≡◌, ◌≤◌, true, length, IfOk};
 
 use crate::{CheckRule, Place, Verdict, check};
 use bound_table::read_bounds;
-use event_rules::text_is_sound;
 use grid_model::{Device, DeviceId, Grid, GridParts, Kind, Mark, Name, NodeId};
 use std::alloc::{AllocError, Global};
 use std::process::Abort;
@@ -45,7 +44,6 @@ fn feeder(rt: &impl Abort, alloc: Global) -> Result<Grid, AllocError>
         meters: Vec::new(alloc),
         settings: [30, 60, 20, 50, 60, 900, 300, 3600],
     };
-    text_is_sound();
     Grid::build(alloc, parts)
 }
 

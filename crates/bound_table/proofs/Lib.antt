@@ -10,4 +10,3 @@ pub mod Lookups
 pub mod PrintedLines
 pub mod Written
 pub mod SmallFeeder
-pub mod TextNames

@@ -20,7 +20,6 @@ use Rattle.bound_table.specs.declared.bound_line.BoundLine.TheVariants.{Cut, Row
 use Rattle.bound_table.specs.Sound.{most_cost, most_depth, IsRowOf}
 use Rattle.bound_table.specs.Printed.{device_name, node_name, parent_word}
 use Rattle.bound_table.specs.BoundLines.{is_plain, cost_of, is_parent, device_of, node_of, parent_of, line_of_fields, line_of}
-use Rattle.bound_table.specs.Laws.{HasNames}
 use Rattle.bound_table.proofs.WordBytes.{is_word, name_text, decimal-word, decimal_within-decimal, length-decimal}
 use Rattle.bound_table.proofs.Commas.{are_words, words_plain, between_commas-join}
 use Rattle.bound_table.proofs.Lookups.{device_of-name, node_of-name}
@@ -56,23 +55,23 @@ cost_line cost h =
     (between_commas-join (codes "bounds") (decimal cost ∷ []) (cost_words cost h))
     (decimal_within-decimal most_cost cost (omega arith) h)
 
-device_is_name : (g : Parts) (d : DeviceId) → HasNames g → d.0 < length g.devices → is_name (device_name g d) ≡ true
-device_is_name g d names h = names.devices d.0 no_device h
+device_is_name : (g : Parts) (d : DeviceId) → IsSoundParts g → d.0 < length g.devices → is_name (device_name g d) ≡ true
+device_is_name g d sound h = sound.names.devices d.0 no_device h
 
-node_is_name : (g : Parts) (n : NodeId) → HasNames g → n.0 < length g.nodes → is_name (node_name g n) ≡ true
-node_is_name g n names h = names.nodes n.0 [] h
+node_is_name : (g : Parts) (n : NodeId) → IsSoundParts g → n.0 < length g.nodes → is_name (node_name g n) ≡ true
+node_is_name g n sound h = sound.names.nodes n.0 [] h
 
 -- cut,DEVICE
-pub cut_words : (g : Parts) (d : DeviceId) → HasNames g → d.0 < length g.devices → are_words (codes "cut" ∷ device_name g d ∷ []) ≡ true
-cut_words g d names h = and_from (is_word (device_name g d)) true (name_text (device_name g d) (device_is_name g d names h)).word refl
+pub cut_words : (g : Parts) (d : DeviceId) → IsSoundParts g → d.0 < length g.devices → are_words (codes "cut" ∷ device_name g d ∷ []) ≡ true
+cut_words g d sound h = and_from (is_word (device_name g d)) true (name_text (device_name g d) (device_is_name g d sound h)).word refl
 
-pub cut_line : (g : Parts) (d : DeviceId) → IsSoundParts g → HasNames g → d.0 < length g.devices → line_of g true (join_with_byte 44 (codes "cut" ∷ device_name g d ∷ [])) ≡ Ok (Cut d)
-cut_line g d sound names h =
-    let name = device_is_name g d names h in
+pub cut_line : (g : Parts) (d : DeviceId) → IsSoundParts g → d.0 < length g.devices → line_of g true (join_with_byte 44 (codes "cut" ∷ device_name g d ∷ [])) ≡ Ok (Cut d)
+cut_line g d sound h =
+    let name = device_is_name g d sound h in
     let text = name_text (device_name g d) name in
     line_of-fields g true (join_with_byte 44 (codes "cut" ∷ device_name g d ∷ [])) (codes "cut") (device_name g d ∷ []) (Ok (Cut d))
-    (plain_line (codes "cut" ∷ device_name g d ∷ []) (cut_words g d names h) (omega (arith, text.short)))
-    (between_commas-join (codes "cut") (device_name g d ∷ []) (cut_words g d names h))
+    (plain_line (codes "cut" ∷ device_name g d ∷ []) (cut_words g d sound h) (omega (arith, text.short)))
+    (between_commas-join (codes "cut") (device_name g d ∷ []) (cut_words g d sound h))
     (cut_fields g (device_name g d) d name (device_of-name g d sound h))
 
 -- the word of a parent
@@ -82,10 +81,10 @@ record IsParentText (g : Parts) (p : Option DeviceId) (text : List ℕ) : Type 0
   parent : is_parent text ≡ true
   read : parent_of g text ≡ Ok p
 
-parent_text : (g : Parts) (p : Option DeviceId) → IsSoundParts g → HasNames g → IfSome p (λ d. d.0 < length g.devices) → IsParentText g p (parent_word g p)
-parent_text g None sound names h = record { word = refl; short = lit≤ tt; parent = refl; read = refl }
-parent_text g (Some d) sound names h =
-    let name = device_is_name g d names h in
+parent_text : (g : Parts) (p : Option DeviceId) → IsSoundParts g → IfSome p (λ d. d.0 < length g.devices) → IsParentText g p (parent_word g p)
+parent_text g None sound h = record { word = refl; short = lit≤ tt; parent = refl; read = refl }
+parent_text g (Some d) sound h =
+    let name = device_is_name g d sound h in
     let text = name_text (device_name g d) name in
     record {
       word = text.word;
@@ -107,18 +106,18 @@ five_words a b c d e ha hb hc hd he = rw (ha, hb, hc, hd, he) refl
 five_length : (a b c d e : List ℕ) → length a ≤ 32 → length b ≤ 32 → length c ≤ 16 → length d ≤ 16 → length e ≤ 16 → length (join_with_byte 44 (codes "row" ∷ a ∷ b ∷ c ∷ d ∷ e ∷ [])) ≤ 512
 five_length a b c d e ha hb hc hd he = simp length-append (omega arith)
 
-pub row_are_words : (g : Parts) (r : BoundRow) → IsSoundParts g → HasNames g → IsRowOf g r → are_words (row_words g r) ≡ true
-row_are_words g r sound names h =
+pub row_are_words : (g : Parts) (r : BoundRow) → IsSoundParts g → IsRowOf g r → are_words (row_words g r) ≡ true
+row_are_words g r sound h =
     five_words (node_name g r.node) (parent_word g r.parent) (decimal r.depth) (decimal r.live) (decimal r.dark)
-    (name_text (node_name g r.node) (node_is_name g r.node names h.node)).word (parent_text g r.parent sound names h.parent).word
+    (name_text (node_name g r.node) (node_is_name g r.node sound h.node)).word (parent_text g r.parent sound h.parent).word
     (decimal-word r.depth (omega (arith, h.depth))) (decimal-word r.live (omega (arith, h.live))) (decimal-word r.dark (omega (arith, h.dark)))
 
-pub row_line : (g : Parts) (may_cut : Bool) (r : BoundRow) → IsSoundParts g → HasNames g → IsRowOf g r → line_of g may_cut (join_with_byte 44 (row_words g r)) ≡ Ok (Row r)
-row_line g may_cut r sound names h =
-    let name = node_is_name g r.node names h.node in
+pub row_line : (g : Parts) (may_cut : Bool) (r : BoundRow) → IsSoundParts g → IsRowOf g r → line_of g may_cut (join_with_byte 44 (row_words g r)) ≡ Ok (Row r)
+row_line g may_cut r sound h =
+    let name = node_is_name g r.node sound h.node in
     let node = name_text (node_name g r.node) name in
-    let parent = parent_text g r.parent sound names h.parent in
-    let words = row_are_words g r sound names h in
+    let parent = parent_text g r.parent sound h.parent in
+    let words = row_are_words g r sound h in
     line_of-fields g may_cut (join_with_byte 44 (row_words g r)) (codes "row") (node_name g r.node ∷ parent_word g r.parent ∷ decimal r.depth ∷ decimal r.live ∷ decimal r.dark ∷ []) (Ok (Row r))
     (plain_line (row_words g r) words
     (five_length (node_name g r.node) (parent_word g r.parent) (decimal r.depth) (decimal r.live) (decimal r.dark) node.short parent.short

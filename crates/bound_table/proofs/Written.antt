@@ -16,7 +16,7 @@ use Rattle.bound_table.specs.Sound.{IsRowOf, IsTableOf}
 use Rattle.bound_table.specs.Printed.{device_name, cost_text, cut_text, row_text, end_text, bounds_text}
 use Rattle.bound_table.specs.BoundLines.{line_of}
 use Rattle.bound_table.specs.Report.{Progress, Before, Inside, Ended, is_behind, last_cut, last_row, bare_table, begins_bounds, has_no_rows, with_line, ReportReading, IsRead, after_text, report_reading}
-use Rattle.bound_table.specs.Laws.{HasNames, is_line_before, ended}
+use Rattle.bound_table.specs.Laws.{is_line_before, ended}
 use Rattle.bound_table.proofs.ReportSteps.{after_text-line, after_text-ended}
 use Rattle.bound_table.proofs.FirstLines.{first_line-taken, line_before}
 use Rattle.bound_table.proofs.Commas.{are_words, words_no_lf}
@@ -47,15 +47,15 @@ behind_last key front x back pairs =
 cut_step : (g : Parts) (n cost : ℕ) (front : List DeviceId) (d : DeviceId) (line : List ℕ) → line_of g true line ≡ Ok (Cut d) → is_behind d.0 (last_cut (table cost front [])) ≡ true → with_line g n line (Inside (table cost front [])) ≡ Inside (table cost (front ++ d ∷ []) [])
 cut_step g n cost front d line e h = rw (e, h) refl
 
-cuts_taken : (g : Parts) (sound : IsSoundParts g) (names : HasNames g) (n cost : ℕ) (front back : List DeviceId) (behind : List ℕ) (end : ReportReading) → All (λ d. d.0 < length g.devices) back → AllPairs (λ a b. a.0 < b.0) (front ++ back) → ((m : ℕ) → after_text g (Inside (table cost (front ++ back) [])) m behind ≡ end) → after_text g (Inside (table cost front [])) n (flat_map (cut_text g) back ++ behind) ≡ end
-cuts_taken g sound names n cost front [] behind end of_grid pairs rest =
+cuts_taken : (g : Parts) (sound : IsSoundParts g) (n cost : ℕ) (front back : List DeviceId) (behind : List ℕ) (end : ReportReading) → All (λ d. d.0 < length g.devices) back → AllPairs (λ a b. a.0 < b.0) (front ++ back) → ((m : ℕ) → after_text g (Inside (table cost (front ++ back) [])) m behind ≡ end) → after_text g (Inside (table cost front [])) n (flat_map (cut_text g) back ++ behind) ≡ end
+cuts_taken g sound n cost front [] behind end of_grid pairs rest =
     ap (λ z. after_text g (Inside (table cost z [])) n behind) (sym (append-nil front)) ∙ rest n
-cuts_taken g sound names n cost front (d ∷ back) behind end of_grid pairs rest =
+cuts_taken g sound n cost front (d ∷ back) behind end of_grid pairs rest =
     let known : d.0 < length g.devices = of_grid 0 d (omega arith) in
     ap (after_text g (Inside (table cost front [])) n) (append_assoc (cut_text g d) (flat_map (cut_text g) back) behind)
-    ∙ row_step g (Inside (table cost front [])) (Inside (table cost (front ++ d ∷ []) [])) n (codes "cut" ∷ device_name g d ∷ []) (flat_map (cut_text g) back ++ behind) (cut_words g d names known)
-    (cut_step g n cost front d (join_with_byte 44 (codes "cut" ∷ device_name g d ∷ [])) (cut_line g d sound names known) (behind_last (λ c. c.0) front d back pairs))
-    ∙ cuts_taken g sound names (n + 1) cost (front ++ d ∷ []) back behind end
+    ∙ row_step g (Inside (table cost front [])) (Inside (table cost (front ++ d ∷ []) [])) n (codes "cut" ∷ device_name g d ∷ []) (flat_map (cut_text g) back ++ behind) (cut_words g d sound known)
+    (cut_step g n cost front d (join_with_byte 44 (codes "cut" ∷ device_name g d ∷ [])) (cut_line g d sound known) (behind_last (λ c. c.0) front d back pairs))
+    ∙ cuts_taken g sound (n + 1) cost (front ++ d ∷ []) back behind end
     (λ k e less. of_grid (suc k) e (omega arith))
     (subst (AllPairs (λ a b. a.0 < b.0)) (sym (append_assoc front (d ∷ []) back)) pairs)
     (λ m. ap (λ z. after_text g (Inside (table cost z [])) m behind) (append_assoc front (d ∷ []) back) ∙ rest m)
@@ -63,15 +63,15 @@ cuts_taken g sound names n cost front (d ∷ back) behind end of_grid pairs rest
 table_row_step : (g : Parts) (n cost : ℕ) (cuts : List DeviceId) (front : List BoundRow) (r : BoundRow) (line : List ℕ) → line_of g (has_no_rows (table cost cuts front)) line ≡ Ok (Row r) → is_behind r.node.0 (last_row (table cost cuts front)) ≡ true → with_line g n line (Inside (table cost cuts front)) ≡ Inside (table cost cuts (front ++ r ∷ []))
 table_row_step g n cost cuts front r line e h = rw (e, h) refl
 
-rows_taken : (g : Parts) (sound : IsSoundParts g) (names : HasNames g) (n cost : ℕ) (cuts : List DeviceId) (front back : List BoundRow) (behind : List ℕ) (end : ReportReading) → All (IsRowOf g) back → AllPairs (λ a b. a.node.0 < b.node.0) (front ++ back) → ((m : ℕ) → after_text g (Inside (table cost cuts (front ++ back))) m behind ≡ end) → after_text g (Inside (table cost cuts front)) n (flat_map (row_text g) back ++ behind) ≡ end
-rows_taken g sound names n cost cuts front [] behind end of_grid pairs rest =
+rows_taken : (g : Parts) (sound : IsSoundParts g) (n cost : ℕ) (cuts : List DeviceId) (front back : List BoundRow) (behind : List ℕ) (end : ReportReading) → All (IsRowOf g) back → AllPairs (λ a b. a.node.0 < b.node.0) (front ++ back) → ((m : ℕ) → after_text g (Inside (table cost cuts (front ++ back))) m behind ≡ end) → after_text g (Inside (table cost cuts front)) n (flat_map (row_text g) back ++ behind) ≡ end
+rows_taken g sound n cost cuts front [] behind end of_grid pairs rest =
     ap (λ z. after_text g (Inside (table cost cuts z)) n behind) (sym (append-nil front)) ∙ rest n
-rows_taken g sound names n cost cuts front (r ∷ back) behind end of_grid pairs rest =
+rows_taken g sound n cost cuts front (r ∷ back) behind end of_grid pairs rest =
     let known : IsRowOf g r = of_grid 0 r (omega arith) in
     ap (after_text g (Inside (table cost cuts front)) n) (append_assoc (row_text g r) (flat_map (row_text g) back) behind)
-    ∙ row_step g (Inside (table cost cuts front)) (Inside (table cost cuts (front ++ r ∷ []))) n (row_words g r) (flat_map (row_text g) back ++ behind) (row_are_words g r sound names known)
-    (table_row_step g n cost cuts front r (join_with_byte 44 (row_words g r)) (row_line g (has_no_rows (table cost cuts front)) r sound names known) (behind_last (λ a. a.node.0) front r back pairs))
-    ∙ rows_taken g sound names (n + 1) cost cuts (front ++ r ∷ []) back behind end
+    ∙ row_step g (Inside (table cost cuts front)) (Inside (table cost cuts (front ++ r ∷ []))) n (row_words g r) (flat_map (row_text g) back ++ behind) (row_are_words g r sound known)
+    (table_row_step g n cost cuts front r (join_with_byte 44 (row_words g r)) (row_line g (has_no_rows (table cost cuts front)) r sound known) (behind_last (λ a. a.node.0) front r back pairs))
+    ∙ rows_taken g sound (n + 1) cost cuts (front ++ r ∷ []) back behind end
     (λ k e less. of_grid (suc k) e (omega arith))
     (subst (AllPairs (λ a b. a.node.0 < b.node.0)) (sym (append_assoc front (r ∷ []) back)) pairs)
     (λ m. ap (λ z. after_text g (Inside (table cost cuts z)) m behind) (append_assoc front (r ∷ []) back) ∙ rest m)
@@ -88,16 +88,16 @@ end_taken g n t =
 regroup : (a b c d : List ℕ) → a ++ b ++ c ++ d ≡ a ++ (b ++ (c ++ d))
 regroup a b c d = simp append_assoc
 
-bounds_taken : (g : Parts) (n : ℕ) (t : Table) → IsSoundParts g → HasNames g → IsTableOf g t → after_text g Before n (bounds_text g t) ≡ IsRead t
+bounds_taken : (g : Parts) (n : ℕ) (t : Table) → IsSoundParts g → IsTableOf g t → after_text g Before n (bounds_text g t) ≡ IsRead t
 unfolding bounds_text
-bounds_taken g n t sound names h =
+bounds_taken g n t sound h =
     let behind_cuts : List ℕ = flat_map (row_text g) t.rows ++ end_text in
     let behind : List ℕ = flat_map (cut_text g) t.cuts ++ behind_cuts in
     ap (after_text g Before n) (regroup (cost_text t) (flat_map (cut_text g) t.cuts) (flat_map (row_text g) t.rows) end_text)
     ∙ row_step g Before (Inside (bare_table t.cost)) n (codes "bounds" ∷ decimal t.cost ∷ []) behind (cost_words t.cost h.cost)
     (first_line-taken g n (join_with_byte 44 (codes "bounds" ∷ decimal t.cost ∷ [])) t.cost refl (cost_line t.cost h.cost))
-    ∙ cuts_taken g sound names (n + 1) t.cost [] t.cuts behind_cuts (IsRead t) h.cuts h.cuts_ascend
-    (λ m. rows_taken g sound names m t.cost t.cuts [] t.rows end_text (IsRead t) h.rows h.rows_ascend (λ k. end_taken g k t))
+    ∙ cuts_taken g sound (n + 1) t.cost [] t.cuts behind_cuts (IsRead t) h.cuts h.cuts_ascend
+    (λ m. rows_taken g sound m t.cost t.cuts [] t.rows end_text (IsRead t) h.rows h.rows_ascend (λ k. end_taken g k t))
 
 -- lines that may stand before the bounds part change nothing
 lines_skipped : (g : Parts) (n : ℕ) (before : List (List ℕ)) (behind : List ℕ) (end : ReportReading) → list_all is_line_before before ≡ true → ((m : ℕ) → after_text g Before m behind ≡ end) → after_text g Before n (ended before ++ behind) ≡ end
@@ -110,5 +110,5 @@ lines_skipped g n (line ∷ before) behind end h rest =
     ∙ ap (λ z. after_text g z (n + 1) (ended before ++ behind)) (line_before g n line (not-true (begins_bounds line) of_line.1))
     ∙ lines_skipped g (n + 1) before behind end parts.1 rest
 
-pub written_is_read : (g : Parts) (t : Table) (before : List (List ℕ)) → IsSoundParts g → HasNames g → IsTableOf g t → list_all is_line_before before ≡ true → report_reading g (ended before ++ bounds_text g t) ≡ IsRead t
-written_is_read g t before sound names h lines = lines_skipped g 1 before (bounds_text g t) (IsRead t) lines (λ m. bounds_taken g m t sound names h)
+pub written_is_read : (g : Parts) (t : Table) (before : List (List ℕ)) → IsSoundParts g → IsTableOf g t → list_all is_line_before before ≡ true → report_reading g (ended before ++ bounds_text g t) ≡ IsRead t
+written_is_read g t before sound h lines = lines_skipped g 1 before (bounds_text g t) (IsRead t) lines (λ m. bounds_taken g m t sound h)

@@ -1,10 +1,9 @@
 -- The bounds that show the least cost of a problem.
-use Rattle.std.specs.Prelude.{ℕ, List, length, map, filter, Option, Some, None, if◌then◌else◌}
+use Rattle.std.specs.Prelude.{ℕ, List, map, filter, Some, None, if◌then◌else◌}
 use Rattle.std.specs.List.{range_with_len}
-use Rattle.outage_rules.specs.Network.{Problem, Cut}
+use Rattle.outage_rules.specs.Network.{Problem}
 use Rattle.outage_rules.specs.Certificate as certificate
 use Rattle.outage_rules.specs.Reference.{table_of, reference_cut, least_cost}
-use Rattle.grid_model.specs.declared.parts.NodeId.{NodeId}
 use Rattle.grid_model.specs.declared.parts.DeviceId.{DeviceId}
 use Rattle.bound_table.specs.declared.bounds.BoundRow.{BoundRow}
 use Rattle.bound_table.specs.Table.{Table}

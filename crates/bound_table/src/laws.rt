@@ -1,10 +1,5 @@
 //! Laws of reports.
-ghost use Rattle.bound_table.specs.Laws.{TextHasNames, WrittenIsRead, ReadIsOfNetwork};
-
-/// The nodes and the devices of a network text have names.
-pub fn text_has_names()
-    ensures { TextHasNames }
-{}
+ghost use Rattle.bound_table.specs.Laws.{WrittenIsRead, ReadIsOfNetwork};
 
 /// Bounds are read as they were printed, whatever lines stand before them.
 pub fn written_is_read()

@@ -10,7 +10,7 @@ mod read;
 mod write;
 
 pub use bounds::{BoundFault, BoundRow, BoundRule, Bounds};
-pub use laws::{read_is_of_network, text_has_names, written_is_read};
+pub use laws::{read_is_of_network, written_is_read};
 pub use read::read_bounds;
 pub use write::put_bounds;
 

@@ -2,7 +2,6 @@
 ghost use Rattle.std.specs.Prelude.{◌≡◌, true};
 
 use crate::{BoundFault, BoundRow, BoundRule, put_bounds, read_bounds};
-use event_rules::text_is_sound;
 use grid_model::{Device, DeviceId, Grid, GridParts, Kind, Name, NodeId};
 use std::alloc::{AllocError, Global};
 use std::process::Abort;
@@ -50,7 +49,6 @@ fn feeder(rt: &impl Abort, alloc: Global) -> Result<Grid, AllocError> {
         meters: Vec::new(alloc),
         settings: [30, 60, 20, 50, 60, 900, 300, 3600],
     };
-    text_is_sound();
     Grid::build(alloc, parts)
 }
 

@@ -9,7 +9,7 @@ use Rattle.outage_rules.specs.Reference.{least_below, distance}
 use Rattle.outage_rules.proofs.Sums.{some_below_at, some_below_true}
 use Rattle.outage_rules.proofs.Live.{carries, carried, live_from_within, live_test}
 use Rattle.outage_rules.proofs.Rooted.{parent_ends, up_within, joined_up}
-use Rattle.diagnosis.proofs.Hung.{listed_is_fed}
+use Rattle.diagnosis.proofs.Fed.{listed_is_fed}
 
 -- the first number that passes is at most each other one, and at least each bound of these
 least_at_most : (b : ℕ) (test : ℕ → Bool) (k : ℕ) → test k ≡ true → least_below b test ≤ k

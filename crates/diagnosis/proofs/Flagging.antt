@@ -1,82 +1,111 @@
--- Devices that are opened, and nodes that are dark, one after another.
-use Rattle.std.proofs.Common.{◌≡◌, ◌≢◌, ℕ, suc, ◌+◌, ◌<◌, Bool, true, false, sym, ap, ◌∙◌, subst, ⊎_elim, arith, List, length, get_or, set, add-one}
-use Rattle.std.specs.Prelude.{◌||◌}
-use Rattle.std.proofs.lemmas.Bool.{cases_eq, false≢true}
+-- One node of the pass over flags, by the device from which it hangs.
+use Rattle.std.proofs.Common.{◌≡◌, ◌≢◌, ℕ, suc, ◌+◌, ◌<◌, Bool, true, false, refl, sym, ap, ◌∙◌, subst, arith, List, length, get_or, set, Option, Some, None, add-one}
+use Rattle.std.specs.Prelude.{option_map, ◌||◌, ◌&&◌}
 use Rattle.std.proofs.lemmas.List.{get_or-set_same, get_or-set_other}
-use Rattle.outage_rules.specs.TreeOrder.{IsInTreeOrder}
+use Rattle.outage_rules.specs.Network.{IsSound}
+use Rattle.outage_rules.specs.Certificate.{has_parent, upper, AgreeWithRows}
+use Rattle.grid_model.specs.declared.parts.NodeId.{NodeId}
 use Rattle.grid_model.specs.declared.history.Mark.{Mark}
-use Rattle.grid_model.specs.declared.parts.Device.{Device}
+use Rattle.grid_model.specs.declared.history.Mark.TheVariants.{Nothing, Opened, Fine}
 use Rattle.grid_model.specs.Parts.{Parts}
-use Rattle.grid_model.specs.Places.{device_at, is_source}
-use Rattle.grid_model.specs.Network.{network_of}
-use Rattle.diagnosis.specs.Problem.{mark_at}
-use Rattle.diagnosis.specs.Passes.{from_of, to_of, flag_in, opens, AreFlagged}
+use Rattle.grid_model.specs.Places.{device_at}
+use Rattle.grid_model.specs.Sound.{IsSoundParts}
+use Rattle.grid_model.specs.Problem.{says_opened, says_fine, mark_at, posed}
+use Rattle.radial_forest.specs.Traversed.{node_at, table_of, parent_in}
+use Rattle.diagnosis.specs.declared.above.Above.{Above}
+use Rattle.diagnosis.specs.declared.passes.Posed.{Posed}
+use Rattle.diagnosis.specs.Passes.{above_by, opens, flag_in, problem_in, table_in, IsReady}
+use Rattle.diagnosis.proofs.Passing.{sound_network_in, is_parent, is_source_node}
+use Rattle.diagnosis.proofs.Flagged
+use Rattle.diagnosis.proofs.Flagged.{AreFlagged}
 
-module _ (g : Parts) (order : IsInTreeOrder (network_of g)) (marks : List Mark) (live dark_rows : List ℕ) where
-  pub flagged_more : (opened dark : List Bool) (i : ℕ) (o : Bool) → i < length g.devices → length opened ≡ length g.devices → length dark ≡ length g.nodes
-      → o ≡ opens (mark_at marks i) (flag_in dark (from_of g i)) ((device_at g i).weight + get_or dark_rows (to_of g i) 0) (get_or live (to_of g i) 0)
-      → AreFlagged g i marks live dark_rows opened dark
-      → AreFlagged g (suc i) marks live dark_rows (set opened i o) (set dark (to_of g i) (flag_in dark (from_of g i) || o))
-  flagged_more opened dark i o l opened_each dark_each is_o before = record { opened = opens_too; dark = darkens; sources = sources }
-    where
-      t : ℕ
-      t = to_of g i
+not_both : (m : Mark) → says_opened m ≡ true → says_fine m ≡ false
+not_both Nothing e = cc
+not_both Opened e = cc
+not_both Fine e = cc
 
-      v : Bool
-      v = flag_in dark (from_of g i) || o
+-- where only closed devices are marked, the problem is sound
+pub posed_is_sound : (g : Parts) → IsSoundParts g → (closed : ℕ → Bool) (mark : ℕ → Mark) (dark live : ℕ → ℕ) → ((d : ℕ) → says_opened (mark d) ≡ true → closed d ≡ true) → IsSound (posed g closed mark dark live)
+posed_is_sound g sound closed mark dark live marked = record {
+  net = sound_network_in g closed sound;
+  weights = λ d l. (sound.devices d l).weight;
+  marks = λ d l o. (marked d o, not_both (mark d) o);
+}
 
-      opened' : List Bool
-      opened' = set opened i o
+module _ (q : Posed) (ready : IsReady q) where
+  pub problem_is_sound : IsSound (problem_in q)
+  problem_is_sound = posed_is_sound q.grid.now ready.sound (λ d. get_or q.closed.now d false) (mark_at q.marks.now) (λ n. get_or q.dark_weights.now n 0) (λ n. get_or q.live_weights.now n 0) ready.marked
 
-      dark' : List Bool
-      dark' = set dark t v
+  module _ (live dark_rows : List ℕ) where
+    pub flagged_none : (opened dark : List Bool) → ((d : ℕ) → d < length q.grid.now.devices → flag_in opened d ≡ (get_or q.closed.now d false && says_opened (mark_at q.marks.now d)))
+        → ((n : ℕ) → n < length q.grid.now.nodes → flag_in dark n ≡ true) → AreFlagged (problem_in q) (table_in q live dark_rows) q.traversal.now.order 0 (flag_in opened) (flag_in dark)
+    flagged_none opened dark marked unfed =
+        Flagged.flagged_none (problem_in q) q.traversal.now problem_is_sound ready.forest ready.traversed.order (λ n. get_or live n 0) (λ n. get_or dark_rows n 0) (flag_in opened) (flag_in dark) marked unfed
 
-      other : (n : ℕ) → n ≢ t → flag_in dark' n ≡ flag_in dark n
-      other n ne = get_or-set_other dark t n v false ne
+    module _ (opened dark : List Bool) (order : List NodeId) (k : ℕ) (is_order : order ≡ q.traversal.now.order) (l : k < length order) (dark_each : length dark ≡ length q.grid.now.nodes)
+        (before : AreFlagged (problem_in q) (table_in q live dark_rows) q.traversal.now.order k (flag_in opened) (flag_in dark)) where
+      within : k < length q.traversal.now.order
+      within = subst (λ xs. k < length xs) is_order l
 
-      from_apart : (d : ℕ) → d < suc i → from_of g d ≢ t
-      from_apart d ld e =
-          ⊎_elim
-          (λ s. let a = order.from_earlier i l in let b = ap (from_of g) s in absurd (omega arith))
-          (λ ne. let lt : d < i = omega (arith, ne) in let a = order.to_later d i lt l in let b = order.from_earlier d (omega arith) in absurd (omega arith))
-          (cases_eq d i)
+      here : node_at order k ≡ node_at q.traversal.now.order k
+      here = ap (λ xs. node_at xs k) is_order
 
-      rule : Bool → ℕ → Bool
-      rule b d = opens (mark_at marks d) b ((device_at g d).weight + get_or dark_rows (to_of g d) 0) (get_or live (to_of g d) 0)
+      here_within : node_at order k < length q.grid.now.nodes
+      here_within = subst (λ n. n < length q.grid.now.nodes) (sym here) (ready.traversed.order.listed k within).0
 
-      opens_too : (d : ℕ) → d < suc i → flag_in opened' d ≡ rule (flag_in dark' (from_of g d)) d
-      opens_too d ld =
-          ⊎_elim
-          (λ e. subst (λ k. flag_in opened' k ≡ rule (flag_in dark' (from_of g k)) k) (sym e)
-          (get_or-set_same opened i o false (omega arith) ∙ is_o ∙ ap (λ b. rule b i) (sym (other (from_of g i) (from_apart i (omega arith))))))
-          (λ ne. get_or-set_other opened i d o false ne ∙ before.opened d (omega (arith, ne)) ∙ ap (λ b. rule b d) (sym (other (from_of g d) (from_apart d ld))))
-          (cases_eq d i)
+      kept : (v : Bool) (n : ℕ) → n ≢ node_at q.traversal.now.order k → flag_in (set dark (node_at order k) v) n ≡ flag_in dark n
+      kept v n ne = get_or-set_other dark (node_at order k) n v false (λ e. ne (e ∙ here))
 
-      darkens : (d : ℕ) → d < suc i → flag_in dark' (to_of g d) ≡ (flag_in dark' (from_of g d) || flag_in opened' d)
-      darkens d ld =
-          ⊎_elim
-          (λ e. subst (λ k. flag_in dark' (to_of g k) ≡ (flag_in dark' (from_of g k) || flag_in opened' k)) (sym e)
-          (get_or-set_same dark t v false (let b = order.to_within i l in omega arith)
-          ∙ ap (λ b. b || o) (sym (other (from_of g i) (from_apart i (omega arith))))
-          ∙ ap (λ b. flag_in dark' (from_of g i) || b) (sym (get_or-set_same opened i o false (omega arith)))))
-          (λ ne. let lt : d < i = omega (arith, ne) in
-          other (to_of g d) (λ s. let a = order.to_later d i lt l in absurd (omega arith))
-          ∙ before.dark d lt
-          ∙ ap (λ b. b || flag_in opened d) (sym (other (from_of g d) (from_apart d ld)))
-          ∙ ap (λ b. flag_in dark' (from_of g d) || b) (sym (get_or-set_other opened i d o false ne)))
-          (cases_eq d i)
+      written : (v : Bool) → flag_in (set dark (node_at order k) v) (node_at q.traversal.now.order k) ≡ v
+      written v = ap (flag_in (set dark (node_at order k) v)) (sym here) ∙ get_or-set_same dark (node_at order k) v false (let a = here_within in omega arith)
 
-      sources : (n : ℕ) → n < length g.nodes → is_source g n ≡ true → flag_in dark' n ≡ false
-      sources n ln s = other n (λ e. false≢true (sym (order.to_fed i l) ∙ ap (is_source g) (sym e) ∙ s)) ∙ before.sources n ln s
+      pub source_flagged : (opened' dark' : List Bool) → opened' ≡ opened → dark' ≡ set dark (node_at order k) false
+          → ◌≡◌ {A = Option Above} None (option_map (above_by q.grid.now (node_at order k)) (parent_in q.traversal.now.parents (node_at order k)))
+          → AreFlagged (problem_in q) (table_in q live dark_rows) q.traversal.now.order (k + 1) (flag_in opened') (flag_in dark')
+      source_flagged opened' dark' is_opened is_dark e =
+          subst (λ i. AreFlagged (problem_in q) (table_in q live dark_rows) q.traversal.now.order i (flag_in opened') (flag_in dark')) (sym (add-one k))
+          (subst (λ xs. AreFlagged (problem_in q) (table_in q live dark_rows) q.traversal.now.order (suc k) (flag_in xs) (flag_in dark')) (sym is_opened)
+          (subst (λ xs. AreFlagged (problem_in q) (table_in q live dark_rows) q.traversal.now.order (suc k) (flag_in opened) (flag_in xs)) (sym is_dark)
+          (Flagged.flagged_source (problem_in q) q.traversal.now problem_is_sound ready.forest ready.traversed.order (λ n. get_or live n 0) (λ n. get_or dark_rows n 0)
+          (flag_in opened) (flag_in opened) (flag_in dark) (flag_in (set dark (node_at order k) false)) k within before (kept false)
+          (ap (has_parent (problem_in q).net (table_of q.traversal.now)) (sym here) ∙ is_source_node q.grid.now (λ d. get_or q.closed.now d false) ready.sound q.traversal.now ready.traversed (node_at order k) here_within e)
+          (written false) (λ d. refl))))
 
-  pub flagged_device : (opened dark : List Bool) (i : ℕ) (o v : Bool) (device : Device) → device ≡ device_at g i → i < length g.devices → length opened ≡ length g.devices → length dark ≡ length g.nodes
-      → o ≡ opens (mark_at marks i) (flag_in dark device.from.0) (device.weight + get_or dark_rows device.to.0 0) (get_or live device.to.0 0)
-      → v ≡ (flag_in dark device.from.0 || o)
-      → AreFlagged g i marks live dark_rows opened dark
-      → AreFlagged g (i + 1) marks live dark_rows (set opened i o) (set dark device.to.0 v)
-  flagged_device opened dark i o v device is l opened_each dark_each is_o is_v before =
-      subst (λ k. AreFlagged g k marks live dark_rows (set opened i o) (set dark device.to.0 v)) (sym (add-one i))
-      (subst (λ w. AreFlagged g (suc i) marks live dark_rows (set opened i o) (set dark device.to.0 w)) (sym is_v)
-      (subst (λ d. AreFlagged g (suc i) marks live dark_rows (set opened i o) (set dark d.to.0 (flag_in dark d.from.0 || o))) (sym is)
-      (flagged_more opened dark i o l opened_each dark_each
-      (is_o ∙ ap (λ d. opens (mark_at marks i) (flag_in dark d.from.0) (d.weight + get_or dark_rows d.to.0 0) (get_or live d.to.0 0)) is) before)))
+      pub node_flagged : (a : Above) (o v : Bool) (opened' dark' : List Bool) → opened' ≡ set opened a.device.0 o → dark' ≡ set dark (node_at order k) v → length opened ≡ length q.grid.now.devices
+          → Some a ≡ option_map (above_by q.grid.now (node_at order k)) (parent_in q.traversal.now.parents (node_at order k))
+          → o ≡ opens (mark_at q.marks.now a.device.0) (flag_in dark a.node.0) (a.weight + get_or dark_rows (node_at order k) 0) (get_or live (node_at order k) 0)
+          → v ≡ (flag_in dark a.node.0 || o)
+          → AreFlagged (problem_in q) (table_in q live dark_rows) q.traversal.now.order (k + 1) (flag_in opened') (flag_in dark')
+      node_flagged a o v opened' dark' is_opened is_dark opened_each e is_o is_v =
+          subst (λ i. AreFlagged (problem_in q) (table_in q live dark_rows) q.traversal.now.order i (flag_in opened') (flag_in dark')) (sym (add-one k))
+          (subst (λ xs. AreFlagged (problem_in q) (table_in q live dark_rows) q.traversal.now.order (suc k) (flag_in xs) (flag_in dark')) (sym is_opened)
+          (subst (λ xs. AreFlagged (problem_in q) (table_in q live dark_rows) q.traversal.now.order (suc k) (flag_in (set opened a.device.0 o)) (flag_in xs)) (sym is_dark)
+          (Flagged.flagged_more (problem_in q) q.traversal.now problem_is_sound ready.forest ready.traversed.order (λ n. get_or live n 0) (λ n. get_or dark_rows n 0)
+          (flag_in opened) (flag_in (set opened a.device.0 o)) (flag_in dark) (flag_in (set dark (node_at order k) v)) k within before (kept v)
+          hangs
+          (λ d ne. get_or-set_other opened a.device.0 d o false (λ s. ne (s ∙ ap (λ b. b.device.0) above_at)))
+          (ap (flag_in (set opened a.device.0 o)) (sym (ap (λ b. b.device.0) above_at)) ∙ get_or-set_same opened a.device.0 o false device_within ∙ is_o
+          ∙ ap (λ b. opens (mark_at q.marks.now b.device.0) (flag_in dark b.node.0) (b.weight + get_or dark_rows (node_at order k) 0) (get_or live (node_at order k) 0)) above_at
+          ∙ ap (λ n. opens (mark_at q.marks.now ((table_of q.traversal.now).parent (node_at q.traversal.now.order k))) (flag_in dark (upper (problem_in q).net (table_of q.traversal.now) (node_at q.traversal.now.order k))) ((device_at q.grid.now ((table_of q.traversal.now).parent (node_at q.traversal.now.order k))).weight + get_or dark_rows n 0) (get_or live n 0)) here)
+          (written v ∙ is_v ∙ ap (λ b. flag_in dark b.node.0 || o) above_at
+          ∙ ap (λ b. flag_in dark (upper (problem_in q).net (table_of q.traversal.now) (node_at q.traversal.now.order k)) || b) (sym (ap (flag_in (set opened a.device.0 o)) (sym (ap (λ b. b.device.0) above_at)) ∙ get_or-set_same opened a.device.0 o false device_within))))))
+        where
+          parent_is : (a ≡ above_by q.grid.now (node_at order k) (record { 0 = (table_of q.traversal.now).parent (node_at order k) })) × (has_parent (problem_in q).net (table_of q.traversal.now) (node_at order k) ≡ true)
+          parent_is = is_parent q.grid.now (λ d. get_or q.closed.now d false) ready.sound q.traversal.now ready.traversed (node_at order k) here_within a e
+
+          above_at : a ≡ above_by q.grid.now (node_at q.traversal.now.order k) (record { 0 = (table_of q.traversal.now).parent (node_at q.traversal.now.order k) })
+          above_at = parent_is.0 ∙ ap (λ n. above_by q.grid.now n (record { 0 = (table_of q.traversal.now).parent n })) here
+
+          hangs : has_parent (problem_in q).net (table_of q.traversal.now) (node_at q.traversal.now.order k) ≡ true
+          hangs = ap (has_parent (problem_in q).net (table_of q.traversal.now)) (sym here) ∙ parent_is.1
+
+          device_within : a.device.0 < length opened
+          device_within =
+              let a = (ready.traversed.rooted.parent (node_at q.traversal.now.order k) (ready.traversed.order.listed k within).0 hangs).within in
+              let b = ap (λ b. b.device.0) above_at in omega arith
+
+    pub flags_agree : (opened dark : List Bool) (order : List NodeId) (i : ℕ) → order ≡ q.traversal.now.order → i ≡ length order
+        → AreFlagged (problem_in q) (table_in q live dark_rows) q.traversal.now.order i (flag_in opened) (flag_in dark) → AgreeWithRows (problem_in q) (table_in q live dark_rows) (flag_in opened) (flag_in dark)
+    flags_agree opened dark order i is_order is_i all =
+        Flagged.flags_agree (problem_in q) q.traversal.now problem_is_sound ready.forest ready.traversed.order (λ n. get_or live n 0) (λ n. get_or dark_rows n 0) (flag_in opened) (flag_in dark)
+        (subst (λ j. AreFlagged (problem_in q) (table_in q live dark_rows) q.traversal.now.order j (flag_in opened) (flag_in dark)) (is_i ∙ ap length is_order) all)

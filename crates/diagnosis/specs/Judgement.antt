@@ -1,5 +1,5 @@
 -- What a judgement says of each node and each device, and when it is that of a problem.
-use Rattle.std.specs.Prelude.{◌≡◌, ℕ, suc, ◌<◌, Bool, true, false, not, ◌&&◌, if◌then◌else◌, IfSome, List, length, filter, slice_index, slice_index_or, Option, Some, None, is_some, unwrap_or}
+use Rattle.std.specs.Prelude.{◌≡◌, ℕ, suc, ◌<◌, Bool, true, false, not, ◌&&◌, if◌then◌else◌, IfSome, List, length, filter, slice_index, slice_index_or, Option, Some, None, is_some}
 use Rattle.std.specs.List.{range_with_len}
 use Rattle.outage_rules.specs.Network.{Network, Problem, Cut, Joins, nothing, is_live}
 use Rattle.outage_rules.specs.Diagnosis.{cost, IsLeastCost}
@@ -7,9 +7,13 @@ use Rattle.outage_rules.specs.Certificate.{Table, has_parent, IsForest, HasExact
 use Rattle.outage_rules.specs.Reference.{distance}
 use Rattle.grid_model.specs.declared.parts.NodeId.{NodeId}
 use Rattle.grid_model.specs.declared.parts.DeviceId.{DeviceId}
+use Rattle.grid_model.specs.Parts.{Parts}
+use Rattle.grid_model.specs.Network.{network_in}
+use Rattle.radial_forest.specs.Traversed.{Traversed, parent_in, depth_in, table_with, IsTraversed}
 
 -- by number: which devices are opened and which nodes dark, the row, the parent device and the depth of each node;
--- what the opened devices cost; and what differs from before
+-- which devices were closed, and the fed nodes, each after the one that it hangs from; what the opened devices cost;
+-- and what differs from before
 pub record Judgement : Type 0 where
   pub opened : List Bool
   pub dark : List Bool
@@ -17,6 +21,8 @@ pub record Judgement : Type 0 where
   pub dark_costs : List ℕ
   pub parents : List (Option DeviceId)
   pub depths : List (Option ℕ)
+  pub closed : List Bool
+  pub order : List NodeId
   pub cost : ℕ
   pub flipped : List NodeId
   pub changed : List DeviceId
@@ -29,14 +35,7 @@ pub record IsSized (nodes devices : ℕ) (j : Judgement) : Type 0 where
   pub dark_costs : length j.dark_costs ≡ nodes
   pub parents : length j.parents ≡ nodes
   pub depths : length j.depths ≡ nodes
-
--- the parent device of a node, by a list of them
-abbrev pub parent_in : List (Option DeviceId) → ℕ → Option DeviceId
-parent_in parents n = slice_index_or parents n None
-
--- the depth of a node, by a list of them
-abbrev pub depth_in : List (Option ℕ) → ℕ → Option ℕ
-depth_in depths n = slice_index_or depths n None
+  pub closed : length j.closed ≡ devices
 
 -- the devices that are taken for opened
 abbrev pub opened_by : Judgement → Cut
@@ -46,20 +45,17 @@ opened_by j d = slice_index_or j.opened d false
 abbrev pub is_dark_by : Judgement → ℕ → Bool
 is_dark_by j n = slice_index_or j.dark n false
 
--- the number of a device, or 0
-abbrev pub number_of_device : Option DeviceId → ℕ
-number_of_device None = 0
-number_of_device (Some d) = d.0
-
 -- the table of the rows, which lists the nodes with a depth
 abbrev pub table_of : Judgement → Table
-table_of j = record {
-  is_listed = λ n. is_some (depth_in j.depths n);
-  parent = λ n. number_of_device (parent_in j.parents n);
-  depth = λ n. unwrap_or (depth_in j.depths n) 0;
-  live_cost = slice_index j.live_costs;
-  dark_cost = slice_index j.dark_costs;
-}
+table_of j = table_with j.parents j.depths (slice_index j.live_costs) (slice_index j.dark_costs)
+
+-- the fed nodes as they were reached
+abbrev pub reached_by : Judgement → Traversed
+reached_by j = record { order = j.order; parents = j.parents; depths = j.depths }
+
+-- they are those of the network where these devices are closed
+abbrev pub IsOfNetwork : Parts → Judgement → Type 0
+IsOfNetwork g j = IsTraversed (network_in g (λ d. slice_index_or j.closed d false)) (reached_by j)
 
 -- the rows are exact over a forest, the flags agree with them, and the cost is that of the opened devices
 pub record IsJudged (p : Problem) (j : Judgement) : Type 0 where

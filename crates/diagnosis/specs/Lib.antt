@@ -1,4 +1,3 @@
-pub mod Problem
 pub mod Judgement
 pub mod Passes
 pub mod JudgedInside

@@ -1,71 +1,98 @@
--- What passes over devices in tree order leave: rows, parents and flags.
-use Rattle.std.specs.Prelude.{◌≡◌, ℕ, suc, ◌+◌, ◌<◌, ◌≤◌, min, Bool, true, false, not, ◌&&◌, ◌||◌, ◌==◌, nat_lt, if◌then◌else◌, List, length, slice_index, slice_index_or, Option, Some, None, is_some, unwrap_or}
-use Rattle.outage_rules.specs.Sum.{total_from}
+-- What passes over the fed nodes leave: rows from the last node to the first, flags from the first to the last.
+use Rattle.std.specs.Prelude.{◌≡◌, ℕ, ◌+◌, ◌≤◌, min, Bool, true, false, not, ◌&&◌, ◌||◌, nat_lt, if◌then◌else◌, List, [], length, sum, slice_index, slice_index_or}
+use Rattle.outage_rules.specs.Sum.{total}
+use Rattle.outage_rules.specs.Network.{Problem}
+use Rattle.outage_rules.specs.Certificate.{Table, other_end, IsForest}
 use Rattle.grid_model.specs.declared.parts.DeviceId.{DeviceId}
 use Rattle.grid_model.specs.declared.history.Mark.{Mark}
 use Rattle.grid_model.specs.Parts.{Parts}
-use Rattle.grid_model.specs.Places.{device_at, is_source}
-use Rattle.diagnosis.specs.Problem.{says_opened, says_fine, mark_at}
-use Rattle.diagnosis.specs.Judgement.{parent_in, depth_in}
+use Rattle.grid_model.specs.Places.{device_at}
+use Rattle.grid_model.specs.Network.{network_of}
+use Rattle.grid_model.specs.Sound.{IsSoundParts}
+use Rattle.grid_model.specs.Problem.{says_opened, says_fine, mark_at, problem_of}
+use Rattle.radial_forest.specs.Traversed.{Traversed, table_of, table_with, IsTraversed}
+use Rattle.diagnosis.specs.Judgement.{Judgement}
+use Rattle.diagnosis.specs.declared.above.Above.{Above}
+use Rattle.diagnosis.specs.declared.passes.Posed.{Posed}
 
--- the upper end of a device
-abbrev pub from_of : Parts → ℕ → ℕ
-from_of g d = (device_at g d).from.0
-
--- its lower end
-abbrev pub to_of : Parts → ℕ → ℕ
-to_of g d = (device_at g d).to.0
+-- a device that leads down to a node, with its weight and its other end
+abbrev pub above_by : Parts → ℕ → DeviceId → Above
+above_by g n d = record {
+  device = d;
+  weight = (device_at g d.0).weight;
+  node = record { 0 = other_end (network_of g) d.0 n };
+}
 
 -- what a device adds to the row of the node above it: where that node is live, by the row of the node below
-abbrev pub live_share : Mark → ℕ → ℕ → ℕ → ℕ
-live_share mark weight live dark =
+abbrev pub live_added : Mark → ℕ → ℕ → ℕ → ℕ
+live_added mark weight live dark =
     if says_opened mark then weight + dark
     else (if says_fine mark then live else min (weight + dark) live)
 
 -- and where it is dark
-abbrev pub dark_share : Mark → ℕ → ℕ → ℕ
-dark_share mark weight dark = dark + (if says_opened mark then weight else 0)
+abbrev pub dark_added : Mark → ℕ → ℕ → ℕ
+dark_added mark weight dark = dark + (if says_opened mark then weight else 0)
 
 -- whether a device is taken for opened
 abbrev pub opens : Mark → Bool → ℕ → ℕ → Bool
 opens mark dark_above open_cost closed_cost =
     says_opened mark || (not dark_above && (not (says_fine mark) && nat_lt open_cost closed_cost))
 
--- what device d adds to the live row of its upper end
-abbrev pub live_added : Parts → List Mark → List ℕ → List ℕ → ℕ → ℕ
-live_added g marks live dark d = live_share (mark_at marks d) (device_at g d).weight (slice_index live (to_of g d)) (slice_index dark (to_of g d))
-
--- and to its dark row
-abbrev pub dark_added : Parts → List Mark → List ℕ → ℕ → ℕ
-dark_added g marks dark d = dark_share (mark_at marks d) (device_at g d).weight (slice_index dark (to_of g d))
-
--- each row is its weight and what the devices out of it add, from device i on
-pub record AreAdded (g : Parts) (i : ℕ) (marks : List Mark) (dark_weights live_weights live_rows dark_rows : List ℕ) : Type 0 where
-  pub live : (n : ℕ) → n < length g.nodes →
-      slice_index live_rows n ≡ slice_index dark_weights n + total_from i (length g.devices) (λ d. if from_of g d == n then live_added g marks live_rows dark_rows d else 0)
-  pub dark : (n : ℕ) → n < length g.nodes →
-      slice_index dark_rows n ≡ slice_index live_weights n + total_from i (length g.devices) (λ d. if from_of g d == n then dark_added g marks dark_rows d else 0)
-  pub small : (n : ℕ) → n < length g.nodes → (slice_index live_rows n ≤ 2_400_000_000_000) × (slice_index dark_rows n ≤ 2_400_000_000_000)
-
--- the depth of a node, or 0
-abbrev pub depth_or_0 : List (Option ℕ) → ℕ → ℕ
-depth_or_0 depths n = unwrap_or (depth_in depths n) 0
-
--- the first i devices hang their lower ends one device deeper than their upper ones
-pub record AreHung (g : Parts) (i : ℕ) (parents : List (Option DeviceId)) (depths : List (Option ℕ)) : Type 0 where
-  pub listed : (n : ℕ) → n < length g.nodes → is_some (depth_in depths n) ≡ true
-  pub small : (n : ℕ) → depth_or_0 depths n ≤ i
-  pub placed : (d : ℕ) → d < i → parent_in parents (to_of g d) ≡ Some (record { 0 = d })
-  pub deeper : (d : ℕ) → d < i → depth_or_0 depths (to_of g d) ≡ suc (depth_or_0 depths (from_of g d))
-  pub top : (n : ℕ) → n < length g.nodes → is_source g n ≡ true → (parent_in parents n ≡ None) × (depth_or_0 depths n ≡ 0)
-
 -- the flag of a node or a device
 abbrev pub flag_in : List Bool → ℕ → Bool
 flag_in flags n = slice_index_or flags n false
 
--- the first i devices are opened where that is marked or costs less, and their lower ends are dark where the upper ones are or the device is opened
-pub record AreFlagged (g : Parts) (i : ℕ) (marks : List Mark) (live_rows dark_rows : List ℕ) (opened_flags dark_flags : List Bool) : Type 0 where
-  pub opened : (d : ℕ) → d < i → flag_in opened_flags d
-      ≡ opens (mark_at marks d) (flag_in dark_flags (from_of g d)) ((device_at g d).weight + slice_index dark_rows (to_of g d)) (slice_index live_rows (to_of g d))
-  pub dark : (d : ℕ) → d < i → flag_in dark_flags (to_of g d) ≡ (flag_in dark_flags (from_of g d) || flag_in opened_flags d)
-  pub sources : (n : ℕ) → n < length g.nodes → is_source g n ≡ true → flag_in dark_flags n ≡ false
+-- the table of these rows over the reached nodes
+abbrev pub with_rows : Traversed → (ℕ → ℕ) → (ℕ → ℕ) → Table
+with_rows v live dark = table_with v.parents v.depths live dark
+
+-- what is judged
+abbrev pub problem_in : Posed → Problem
+problem_in q = problem_of q.grid.now q.closed.now q.marks.now q.dark_weights.now q.live_weights.now
+
+-- the table of these rows over its fed nodes
+abbrev pub table_in : Posed → List ℕ → List ℕ → Table
+table_in q live dark = with_rows q.traversal.now (slice_index live) (slice_index dark)
+
+-- what is judged of it by these flags and rows
+abbrev pub judgement_in : Posed → List Bool → List Bool → List ℕ → List ℕ → ℕ → Judgement
+judgement_in q opened dark live_costs dark_costs cost = record {
+  opened = opened;
+  dark = dark;
+  live_costs = live_costs;
+  dark_costs = dark_costs;
+  parents = q.traversal.now.parents;
+  depths = q.traversal.now.depths;
+  closed = q.closed.now;
+  order = q.traversal.now.order;
+  cost = cost;
+  flipped = [];
+  changed = [];
+}
+
+-- one state and one mark a device, one dark and one live weight a node; only closed devices are marked, and the fed nodes are a forest
+pub record IsReady (q : Posed) : Type 0 where
+  pub sound : IsSoundParts q.grid.now
+  pub states : length q.closed.now ≡ length q.grid.now.devices
+  pub marks : length q.marks.now ≡ length q.grid.now.devices
+  pub marked : (d : ℕ) → says_opened (mark_at q.marks.now d) ≡ true → slice_index_or q.closed.now d false ≡ true
+  pub dark_each : length q.dark_weights.now ≡ length q.grid.now.nodes
+  pub live_each : length q.live_weights.now ≡ length q.grid.now.nodes
+  pub dark_bound : sum q.dark_weights.now ≤ 1_000_000_000_000
+  pub live_bound : sum q.live_weights.now ≤ 1_000_000_000_000
+  pub traversed : IsTraversed (problem_in q).net q.traversal.now
+  pub forest : IsForest (problem_in q).net (table_of q.traversal.now)
+
+-- what the reports at the nodes that aren't fed come to
+abbrev pub unfed_reports : Posed → ℕ
+unfed_reports q = total (length q.grid.now.nodes) (λ n. if (table_of q.traversal.now).is_listed n then 0 else slice_index q.live_weights.now n)
+
+-- whether a device is marked open and leads from one such node to another
+abbrev pub is_apart : Posed → ℕ → Bool
+is_apart q d =
+    says_opened (mark_at q.marks.now d)
+    && (not ((table_of q.traversal.now).is_listed (device_at q.grid.now d).from.0) && not ((table_of q.traversal.now).is_listed (device_at q.grid.now d).to.0))
+
+-- what such devices weigh
+abbrev pub unfed_marks : Posed → ℕ
+unfed_marks q = total (length q.grid.now.devices) (λ d. if is_apart q d then (device_at q.grid.now d).weight else 0)

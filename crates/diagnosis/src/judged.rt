@@ -1,9 +1,11 @@
 //! The judgement of a network: which devices are taken for opened, which nodes are dark, and what that costs.
 ghost use Rattle.std.specs.Prelude.{◌≡◌};
 
-use crate::passes::{add_rows, flag, hang, list_changed, list_flipped};
-use crate::total_at_sources;
+use crate::lists::{list_changed, list_flipped};
+use crate::passes::Posed;
+use crate::walks::{follow, starting_states, starting_traversal};
 use grid_model::{DeviceId, Grid, Mark, NodeId};
+use radial_forest::Traversal;
 use std::alloc::{AllocError, Global};
 use std::marker::Model;
 
@@ -17,8 +19,8 @@ pub struct Judged {
     dark_before: Vec<bool>,
     live_costs: Vec<u64>,
     dark_costs: Vec<u64>,
-    parents: Vec<Option<DeviceId>>,
-    depths: Vec<Option<u32>>,
+    closed: Vec<bool>,
+    traversal: Traversal,
     cost: u64,
     flipped: Vec<NodeId>,
     flipped_count: usize,
@@ -39,18 +41,19 @@ impl Model for Judged {
 }
 
 impl Judged {
-    ghost use Rattle.std.specs.Prelude.{◌≡◌, ◌≤◌, ◌<◌, ℕ, true, [], length, map, sum, slice_index, slice_index_or, false, All, IfOk};
+    ghost use Rattle.std.specs.Prelude.{◌≡◌, ◌≤◌, ◌<◌, ℕ, true, false, [], length, map, sum, slice_index, slice_index_or, IfOk};
     ghost use Rattle.outage_rules.specs.Diagnosis.{IsDiagnosis, cost};
-    ghost use Rattle.outage_rules.specs.TreeOrder.{IsInTreeOrder};
+    ghost use Rattle.outage_rules.specs.Network.{IsRadial};
     ghost use Rattle.outage_rules.specs.Laws.{IsWithin};
-    ghost use Rattle.grid_model.specs.Network.{network_of, problem_with};
-    ghost use Rattle.diagnosis.specs.Problem.{problem_of};
-    ghost use Rattle.diagnosis.specs.Judgement.{IsSized, IsJudged, TellsDark, TellsDepths, TellsParents, TellsCosts, parent_in, depth_in, opened_by, is_dark_by, differences, flagged};
+    ghost use Rattle.grid_model.specs.Network.{network_in, problem_with};
+    ghost use Rattle.grid_model.specs.Problem.{says_opened, mark_at, problem_of};
+    ghost use Rattle.radial_forest.specs.Traversed.{parent_in, depth_in};
+    ghost use Rattle.diagnosis.specs.Judgement.{IsOfNetwork, IsSized, IsJudged, TellsDark, TellsDepths, TellsParents, TellsCosts, opened_by, is_dark_by, differences, flagged};
 
     /// As after a recompute over the starting states without marks and weights: nothing is opened,
     /// and nothing flipped or changed. An error says that memory ran out.
     pub fn new(alloc: Global, grid: &Grid) -> Result<Judged, AllocError>
-        requires order { IsInTreeOrder (network_of grid.now) }
+        ensures own { IfOk result (IsOfNetwork grid.now) }
         ensures judged { IfOk result (λ judged. IsJudged (problem_with grid.now (λ n. 0)) judged) }
         ensures diagnosis { IfOk result (λ judged. IsDiagnosis (problem_with grid.now (λ n. 0)) (opened_by judged)) }
         ensures within { IfOk result (λ judged. IsWithin (problem_with grid.now (λ n. 0)) (opened_by judged)) }
@@ -64,7 +67,7 @@ impl Judged {
     {
         let nodes = grid.nodes() as usize;
         let devices = grid.devices() as usize;
-        let closed = vec![in alloc; true; devices]?;
+        let closed = starting_states(alloc, grid)?;
         let marks = vec![in alloc; Mark::Nothing; devices]?;
         let weights = vec![in alloc; 0; nodes]?;
         let mut judged = Judged {
@@ -74,8 +77,8 @@ impl Judged {
             dark_before: vec![in alloc; false; nodes]?,
             live_costs: vec![in alloc; 0; nodes]?,
             dark_costs: vec![in alloc; 0; nodes]?,
-            parents: vec![in alloc; None; nodes]?,
-            depths: vec![in alloc; None; nodes]?,
+            closed: starting_states(alloc, grid)?,
+            traversal: starting_traversal(alloc, grid)?,
             cost: 0,
             flipped: vec![in alloc; NodeId(0); nodes]?,
             flipped_count: 0,
@@ -88,8 +91,10 @@ impl Judged {
         Ok(judged)
     }
 
-    /// Judges the network anew: one state and one mark a device, one dark and one live weight a
-    /// node. The network's text stood in tree order, and all devices are closed. Takes no memory.
+    /// Judges the network anew, which is the one of the first judgement: one state and one mark a
+    /// device, one dark and one live weight a node. The closed devices close no loop, and only closed
+    /// devices are marked. Takes no memory, and walks over the network only where another device is
+    /// closed than before.
     pub fn recompute(
         &mut self,
         grid: &Grid,
@@ -98,16 +103,18 @@ impl Judged {
         dark: &[u64],
         live: &[u64],
     )
-        requires order { IsInTreeOrder (network_of grid.now) }
+        requires own { IsOfNetwork grid.now self.old }
         requires sized { IsSized (length grid.now.nodes) (length grid.now.devices) self.old }
         requires states { length closed.now ≡ length grid.now.devices }
-        requires closed { All (λ c. c ≡ true) closed.now }
+        requires radial { IsRadial (network_in grid.now (λ d. slice_index_or closed.now d false)) }
         requires marks { length marks.now ≡ length grid.now.devices }
+        requires marked { (d : ℕ) → says_opened (mark_at marks.now d) ≡ true → slice_index_or closed.now d false ≡ true }
         requires dark_weights { length dark.now ≡ length grid.now.nodes }
         requires live_weights { length live.now ≡ length grid.now.nodes }
         requires dark_bound { sum dark.now ≤ 1_000_000_000_000 }
         requires live_bound { sum live.now ≤ 1_000_000_000_000 }
 
+        ensures own { IsOfNetwork grid.now self.new }
         ensures judged { IsJudged (problem_of grid.now closed.now marks.now dark.now live.now) self.new }
         ensures diagnosis { IsDiagnosis (problem_of grid.now closed.now marks.now dark.now live.now) (opened_by self.new) }
         ensures within { IsWithin (problem_of grid.now closed.now marks.now dark.now live.now) (opened_by self.new) }
@@ -121,23 +128,25 @@ impl Judged {
         ensures flipped { map (λ n. n.0) self.new.flipped ≡ differences self.old.dark self.new.dark }
         ensures changed { map (λ d. d.0) self.new.changed ≡ differences self.old.opened self.new.opened }
     {
-        // All devices are closed.
-        let _ = closed;
+        let nodes = grid.nodes() as usize;
+        prove!(dark.len() == nodes);
         self.opened_before.copy_from_slice(&self.opened);
         self.dark_before.copy_from_slice(&self.dark);
-        self.live_costs.copy_from_slice(dark);
-        self.dark_costs.copy_from_slice(live);
-        add_rows(grid, marks, &mut self.live_costs, &mut self.dark_costs);
-        hang(grid, &mut self.parents, &mut self.depths);
-        flag(
+        follow(&mut self.traversal, &mut self.closed, grid, closed);
+        let posed = Posed {
             grid,
+            closed,
             marks,
-            &self.live_costs,
-            &self.dark_costs,
+            dark_weights: dark,
+            live_weights: live,
+            traversal: &self.traversal,
+        };
+        self.cost = posed.judge(
+            &mut self.live_costs,
+            &mut self.dark_costs,
             &mut self.opened,
             &mut self.dark,
         );
-        self.cost = total_at_sources(grid, &self.live_costs);
         self.flipped_count = list_flipped(&self.dark_before, &self.dark, &mut self.flipped);
         self.changed_count = list_changed(&self.opened_before, &self.opened, &mut self.changed);
     }
@@ -154,7 +163,7 @@ impl Judged {
         requires { n.0 < length self.now.dark }
         ensures { result ≡ parent_in self.now.parents n.0 }
     {
-        self.parents[n.0 as usize]
+        self.traversal.parent(n)
     }
 
     /// How many devices are between a node and its source: none for a node that isn't fed.
@@ -162,7 +171,7 @@ impl Judged {
         requires { n.0 < length self.now.dark }
         ensures { result ≡ depth_in self.now.depths n.0 }
     {
-        self.depths[n.0 as usize]
+        self.traversal.depth(n)
     }
 
     /// The least cost of the part at and below a fed node, where the node is live.

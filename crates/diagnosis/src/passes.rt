@@ -1,17 +1,32 @@
-//! Passes over devices in tree order: rows from the last to the first, parents and flags from the first to the last.
-ghost use Rattle.std.specs.Prelude.{◌≡◌, ◌≤◌, ◌<◌, ◌+◌, ◌^◌, ℕ, length, map, take, sum, slice_index, option_map, IfSome};
-ghost use Rattle.outage_rules.specs.TreeOrder.{IsInTreeOrder};
-ghost use Rattle.grid_model.specs.Network.{network_of};
-ghost use Rattle.grid_model.specs.Sound.{IsSoundParts};
-ghost use Rattle.diagnosis.specs.Judgement.{differences};
-ghost use Rattle.diagnosis.specs.Passes.{live_share, dark_share, opens, AreAdded, AreHung, AreFlagged};
+//! Passes over the fed nodes: rows from the last node to the first, flags from the first to the last.
+ghost use Rattle.std.specs.Prelude.{◌≡◌, ◌≤◌, ◌<◌, ◌+◌, ◌^◌, ◌&&◌, ℕ, true, false, [], length, slice_index, slice_index_or};
+ghost use Rattle.outage_rules.specs.Certificate.{HasExactRows, AgreeWithRows, bound_of};
+ghost use Rattle.grid_model.specs.Problem.{says_opened, mark_at};
+ghost use Rattle.diagnosis.specs.Passes.{live_added, dark_added, opens, flag_in, IsReady, problem_in, table_in, judgement_in, unfed_reports, is_apart, unfed_marks};
+ghost use Rattle.diagnosis.specs.Judgement.{IsJudged};
+ghost use Rattle.radial_forest.specs.Traversed.{table_of};
 
+use crate::above::device_above;
+use crate::sums::total_at_sources;
 use grid_model::{DeviceId, Grid, Mark, NodeId};
+use radial_forest::Traversal;
+
+/// What is judged: which devices are closed and how each is marked, what the dark and the live
+/// reports at each node weigh, and the fed nodes.
+#[derive(Drop)]
+pub(crate) struct Posed<'a> {
+    pub(crate) grid: &'a Grid,
+    pub(crate) closed: &'a [bool],
+    pub(crate) marks: &'a [Mark],
+    pub(crate) dark_weights: &'a [u64],
+    pub(crate) live_weights: &'a [u64],
+    pub(crate) traversal: &'a Traversal,
+}
 
 // What a device adds to the row of the node above it, where that node is live.
 fn added_live(mark: Mark, weight: u64, live: u64, dark: u64) -> u64
     requires { weight + dark < 2 ^ 64 }
-    ensures { result ≡ live_share mark weight live dark }
+    ensures { result ≡ live_added mark weight live dark }
 {
     match mark {
         Mark::Opened => weight + dark,
@@ -23,58 +38,11 @@ fn added_live(mark: Mark, weight: u64, live: u64, dark: u64) -> u64
 // And where it is dark.
 fn added_dark(mark: Mark, weight: u64, dark: u64) -> u64
     requires { weight + dark < 2 ^ 64 }
-    ensures { result ≡ dark_share mark weight dark }
+    ensures { result ≡ dark_added mark weight dark }
 {
     match mark {
         Mark::Opened => dark + weight,
         Mark::Fine | Mark::Nothing => dark,
-    }
-}
-
-// Adds to each row what its devices and the rows below them cost, from the last device to the first.
-pub(crate) fn add_rows(grid: &Grid, marks: &[Mark], live_costs: &mut [u64], dark_costs: &mut [u64])
-    requires order { IsInTreeOrder (network_of grid.now) }
-    requires marks { length marks.now ≡ length grid.now.devices }
-    requires live_rows { length live_costs.old ≡ length grid.now.nodes }
-    requires dark_rows { length dark_costs.old ≡ length grid.now.nodes }
-    requires live_bound { sum live_costs.old ≤ 1_000_000_000_000 }
-    requires dark_bound { sum dark_costs.old ≤ 1_000_000_000_000 }
-    ensures rows { AreAdded grid.now 0 marks.now live_costs.old dark_costs.old live_costs.new dark_costs.new }
-    ensures sound { IsSoundParts grid.now }
-{
-    for d in (0..grid.devices()).rev() {
-        let device = grid.device(DeviceId(d));
-        let mark = marks[d as usize];
-        let weight = u64::from(device.weight);
-        let live = live_costs[device.to.0 as usize];
-        let dark = dark_costs[device.to.0 as usize];
-        live_costs[device.from.0 as usize] += added_live(mark, weight, live, dark);
-        dark_costs[device.from.0 as usize] += added_dark(mark, weight, dark);
-    }
-}
-
-// One device further from the source.
-fn one_deeper(depth: Option<u32>) -> Option<u32>
-    requires { IfSome depth (λ k. k < 1_000_000) }
-    ensures { result ≡ option_map (λ k. k + 1) depth }
-{
-    depth.map(|k| k + 1)
-}
-
-// Hangs the lower end of each device below its upper end, from the first device to the last.
-pub(crate) fn hang(grid: &Grid, parents: &mut [Option<DeviceId>], depths: &mut [Option<u32>])
-    requires order { IsInTreeOrder (network_of grid.now) }
-    requires parents { length parents.old ≡ length grid.now.nodes }
-    requires depths { length depths.old ≡ length grid.now.nodes }
-    ensures { AreHung grid.now (length grid.now.devices) parents.new depths.new }
-{
-    parents.fill(None);
-    depths.fill(Some(0));
-    for d in 0..grid.devices() {
-        let device = grid.device(DeviceId(d));
-        let below = device.to.0 as usize;
-        parents[below] = Some(DeviceId(d));
-        depths[below] = one_deeper(depths[device.from.0 as usize]);
     }
 }
 
@@ -89,68 +57,152 @@ fn is_opening(mark: Mark, dark_above: bool, open_cost: u64, closed_cost: u64) ->
     }
 }
 
-// Opens each device where that is marked or costs less, from the first to the last, and flags what is dark below.
-pub(crate) fn flag(
-    grid: &Grid,
-    marks: &[Mark],
-    live_costs: &[u64],
-    dark_costs: &[u64],
-    opened: &mut [bool],
-    dark: &mut [bool],
-)
-    requires order { IsInTreeOrder (network_of grid.now) }
-    requires marks { length marks.now ≡ length grid.now.devices }
-    requires live_rows { length live_costs.now ≡ length grid.now.nodes }
-    requires dark_rows { length dark_costs.now ≡ length grid.now.nodes }
-    requires small { (n : ℕ) → n < length grid.now.nodes → slice_index dark_costs.now n ≤ 2_400_000_000_000 }
-    requires opened { length opened.old ≡ length grid.now.devices }
-    requires dark { length dark.old ≡ length grid.now.nodes }
-    ensures { AreFlagged grid.now (length grid.now.devices) marks.now live_costs.now dark_costs.now opened.new dark.new }
+fn says_opened(mark: Mark) -> bool
+    ensures { result ≡ says_opened mark }
 {
-    dark.fill(false);
-    for d in 0..grid.devices() {
-        let device = grid.device(DeviceId(d));
-        let below = device.to.0 as usize;
-        let dark_above = dark[device.from.0 as usize];
-        let open_cost = u64::from(device.weight) + dark_costs[below];
-        let opens = is_opening(marks[d as usize], dark_above, open_cost, live_costs[below]);
-        opened[d as usize] = opens;
-        dark[below] = dark_above || opens;
+    matches!(mark, Mark::Opened)
+}
+
+// Flags the devices that are closed and marked open.
+fn flag_marked(closed: &[bool], marks: &[Mark], opened: &mut [bool])
+    requires marks { length marks.now ≡ length closed.now }
+    requires room { length opened.old ≡ length closed.now }
+    ensures { (d : ℕ) → d < length closed.now → flag_in opened.new d ≡ (slice_index_or closed.now d false && says_opened (mark_at marks.now d)) }
+{
+    for d in 0..opened.len() {
+        opened[d] = closed[d] && says_opened(marks[d]);
     }
 }
 
-// Lists the nodes whose flags differ, and says how many there are.
-pub(crate) fn list_flipped(before: &[bool], now: &[bool], flipped: &mut [NodeId]) -> usize
-    requires before { length before.now ≡ length now.now }
-    requires room { length flipped.old ≡ length now.now }
-    requires few { length now.now < 2 ^ 32 }
-    ensures count { result ≤ length flipped.new }
-    ensures listed { map (λ n. n.0) (take result flipped.new) ≡ differences before.now now.now }
-{
-    let mut count = 0;
-    for n in 0..now.len() {
-        if before[n] != now[n] {
-            flipped[count] = NodeId(n as u32);
-            count += 1;
+impl Posed<'_> {
+    // The least costs of the parts at and below the fed nodes, where those are live and where they are
+    // dark: each row is the node's weight, and what the rows below it and their devices add.
+    fn add_rows(&self, live_rows: &mut [u64], dark_rows: &mut [u64])
+        requires ready { IsReady self.now }
+        requires live_room { length live_rows.old ≡ length self.now.grid.now.nodes }
+        requires dark_room { length dark_rows.old ≡ length self.now.grid.now.nodes }
+        ensures rows { HasExactRows (problem_in self.now) (table_in self.now live_rows.new dark_rows.new) }
+        ensures small_live { (n : ℕ) → n < length self.now.grid.now.nodes → slice_index live_rows.new n ≤ 2_400_000_000_000 }
+        ensures small_dark { (n : ℕ) → n < length self.now.grid.now.nodes → slice_index dark_rows.new n ≤ 2_400_000_000_000 }
+    {
+        live_rows.copy_from_slice(self.dark_weights);
+        dark_rows.copy_from_slice(self.live_weights);
+        let order = self.traversal.order();
+        for k in (0..order.len()).rev() {
+            let n = order[k];
+            if let Some(above) = device_above(self.grid, self.traversal, n) {
+                let mark = self.marks[above.device.0 as usize];
+                let live = live_rows[n.0 as usize];
+                let dark = dark_rows[n.0 as usize];
+                live_rows[above.node.0 as usize] += added_live(mark, above.weight, live, dark);
+                dark_rows[above.node.0 as usize] += added_dark(mark, above.weight, dark);
+            }
         }
     }
-    count
-}
 
-// The same of devices.
-pub(crate) fn list_changed(before: &[bool], now: &[bool], changed: &mut [DeviceId]) -> usize
-    requires before { length before.now ≡ length now.now }
-    requires room { length changed.old ≡ length now.now }
-    requires few { length now.now < 2 ^ 32 }
-    ensures count { result ≤ length changed.new }
-    ensures listed { map (λ d. d.0) (take result changed.new) ≡ differences before.now now.now }
-{
-    let mut count = 0;
-    for d in 0..now.len() {
-        if before[d] != now[d] {
-            changed[count] = DeviceId(d as u32);
-            count += 1;
+    // Opens each device where that is marked or costs less, and flags what is dark.
+    fn flag(&self, live_rows: &[u64], dark_rows: &[u64], opened: &mut [bool], dark: &mut [bool])
+        requires ready { IsReady self.now }
+        requires live_rows { length live_rows.now ≡ length self.now.grid.now.nodes }
+        requires dark_rows { length dark_rows.now ≡ length self.now.grid.now.nodes }
+        requires small { (n : ℕ) → n < length self.now.grid.now.nodes → slice_index dark_rows.now n ≤ 2_400_000_000_000 }
+        requires opened { length opened.old ≡ length self.now.grid.now.devices }
+        requires dark { length dark.old ≡ length self.now.grid.now.nodes }
+        ensures { AgreeWithRows (problem_in self.now) (table_in self.now live_rows.now dark_rows.now) (flag_in opened.new) (flag_in dark.new) }
+    {
+        flag_marked(self.closed, self.marks, opened);
+        dark.fill(true);
+        for n in self.traversal.order() {
+            match device_above(self.grid, self.traversal, *n) {
+                Some(above) => {
+                    let d = above.device.0 as usize;
+                    let dark_above = dark[above.node.0 as usize];
+                    let open_cost = above.weight + dark_rows[n.0 as usize];
+                    let closed_cost = live_rows[n.0 as usize];
+                    let opens = is_opening(self.marks[d], dark_above, open_cost, closed_cost);
+                    opened[d] = opens;
+                    dark[n.0 as usize] = dark_above || opens;
+                }
+                None => dark[n.0 as usize] = false,
+            }
         }
     }
-    count
+
+    // Whether a node is fed.
+    fn is_fed(&self, n: NodeId) -> bool
+        requires { n.0 < length self.now.traversal.now.depths }
+        ensures { result ≡ (table_of self.now.traversal.now).is_listed n.0 }
+    {
+        self.traversal.depth(n).is_some()
+    }
+
+    // What the live reports at the nodes that aren't fed come to.
+    fn unfed_reports(&self) -> u64
+        requires { IsReady self.now }
+        ensures { result ≡ unfed_reports self.now }
+    {
+        let mut total = 0;
+        for n in 0..self.grid.nodes() {
+            if !self.is_fed(NodeId(n)) {
+                total += self.live_weights[n as usize];
+            }
+        }
+        total
+    }
+
+    // Whether a device is marked open and leads from one node that isn't fed to another.
+    fn is_apart(&self, d: DeviceId) -> bool
+        requires ready { IsReady self.now }
+        requires device { d.0 < length self.now.grid.now.devices }
+        ensures { result ≡ is_apart self.now d.0 }
+    {
+        let device = self.grid.device(d);
+        says_opened(self.marks[d.0 as usize])
+            && !self.is_fed(device.from)
+            && !self.is_fed(device.to)
+    }
+
+    // What such devices weigh.
+    fn unfed_marks(&self) -> u64
+        requires { IsReady self.now }
+        ensures { result ≡ unfed_marks self.now }
+    {
+        let mut total = 0;
+        for d in 0..self.grid.devices() {
+            if self.is_apart(DeviceId(d)) {
+                total += u64::from(self.grid.device(DeviceId(d)).weight);
+            }
+        }
+        total
+    }
+
+    // What the sources' rows and the parts that aren't fed come to.
+    fn cost(&self, live_rows: &[u64]) -> u64
+        requires ready { IsReady self.now }
+        requires live_rows { length live_rows.now ≡ length self.now.grid.now.nodes }
+        requires small { (n : ℕ) → n < length self.now.grid.now.nodes → slice_index live_rows.now n ≤ 2_400_000_000_000 }
+        ensures { result ≡ bound_of (problem_in self.now) (table_in self.now live_rows.now []) }
+    {
+        total_at_sources(self.grid, live_rows) + self.unfed_reports() + self.unfed_marks()
+    }
+
+    // Judges the problem anew: rows, flags, and what the opened devices cost.
+    pub(crate) fn judge(
+        &self,
+        live_rows: &mut [u64],
+        dark_rows: &mut [u64],
+        opened: &mut [bool],
+        dark: &mut [bool],
+    ) -> u64
+        requires ready { IsReady self.now }
+        requires live_room { length live_rows.old ≡ length self.now.grid.now.nodes }
+        requires dark_room { length dark_rows.old ≡ length self.now.grid.now.nodes }
+        requires opened { length opened.old ≡ length self.now.grid.now.devices }
+        requires dark { length dark.old ≡ length self.now.grid.now.nodes }
+        ensures { IsJudged (problem_in self.now) (judgement_in self.now opened.new dark.new live_rows.new dark_rows.new result) }
+    {
+        self.add_rows(live_rows, dark_rows);
+        self.flag(live_rows, dark_rows, opened, dark);
+        self.cost(live_rows)
+    }
 }

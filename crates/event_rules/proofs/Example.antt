@@ -1,6 +1,6 @@
--- A worked example: a feeder of five nodes, from its text to all that a replay of two calls prints.
+-- A worked example: a feeder of five nodes, and all that a replay of two calls prints.
 use Rattle.std.proofs.Common.{◌≡◌, ℕ, true, refl, List, [], ◌∷◌}
-use Rattle.std.specs.Prelude.{codes, None}
+use Rattle.std.specs.Prelude.{codes}
 use Rattle.std.specs.Fmt.{digits}
 use Rattle.grid_model.specs.Parts.{Parts}
 use Rattle.grid_model.specs.declared.parts.Device.{Device}
@@ -10,8 +10,6 @@ use Rattle.grid_model.specs.declared.parts.Kind.TheVariants.{Fuse, Transformer, 
 use Rattle.outage_rules.specs.Reference.{least_cost}
 use Rattle.event_rules.specs.Lines.{lines}
 use Rattle.event_rules.specs.Fields.{parts_from}
-use Rattle.event_rules.specs.Rows.{row_of}
-use Rattle.event_rules.specs.GridText.{IsGrid, IsRefusedAt, default_settings, with_lines, grid_text}
 use Rattle.event_rules.specs.Calls.{problem_of, least_of, diagnosis_of}
 use Rattle.event_rules.specs.EventText.{event_of}
 use Rattle.event_rules.specs.Output.{change_rows, entries, calls_in, replay_text}
@@ -25,30 +23,6 @@ an_end_of_two = refl
 empty_lines : lines (codes "\n\na") ≡ [] ∷ [] ∷ codes "a" ∷ []
 unfolding lines
 empty_lines = refl
-
--- customers have no leading zero
-no_leading_zero : row_of (codes "meter,M1,C,007") ≡ None
-unfolding row_of parts_from
-no_leading_zero = refl
-
--- a meter has some customers
-some_customers : row_of (codes "meter,M1,C,0") ≡ None
-unfolding row_of parts_from
-some_customers = refl
-
--- a device starts closed
-starts_closed : row_of (codes "device,B1,breaker,S,A,open,-") ≡ None
-unfolding row_of parts_from
-starts_closed = refl
-
--- `-` alone is no name
-dash_is_no_name : row_of (codes "source,-") ≡ None
-unfolding row_of parts_from
-dash_is_no_name = refl
-
--- the feeder's text
-abbrev network_text : List ℕ
-network_text = codes "source,S\ndevice,B1,breaker,S,A,closed,-\ndevice,F1,fuse,A,C,closed,-\ndevice,T1,transformer,A,D,closed,-\ndevice,T2,transformer,A,E,closed,-\nmeter,M1,C,10\nmeter,M2,C,20\nmeter,M3,D,5\nmeter,M4,E,5\n"
 
 -- two calls
 abbrev events : List ℕ
@@ -69,13 +43,8 @@ feeder = record {
   sources = record { 0 = 0 } ∷ [];
   devices = device (codes "B1") Breaker 0 1 120 ∷ device (codes "F1") Fuse 1 2 40 ∷ device (codes "T1") Transformer 1 3 50 ∷ device (codes "T2") Transformer 1 4 50 ∷ [];
   meters = meter (codes "M1") 2 10 ∷ meter (codes "M2") 2 20 ∷ meter (codes "M3") 3 5 ∷ meter (codes "M4") 4 5 ∷ [];
-  settings = default_settings;
+  settings = 30 ∷ 60 ∷ 20 ∷ 50 ∷ 60 ∷ 900 ∷ 300 ∷ 3600 ∷ [];
 }
-
--- the text says the feeder
-the_text_is_the_feeder : grid_text network_text ≡ IsGrid feeder
-unfolding grid_text with_lines lines row_of parts_from
-the_text_is_the_feeder = refl
 
 -- one call costs less than the fuse above it
 one_call_costs_30 : least_of feeder (0 ∷ []) ≡ 30
@@ -96,11 +65,6 @@ printed = refl
 silent : replay_text feeder [] ≡ codes "total,0\nend\n"
 unfolding replay_text entries calls_in lines least_of problem_of least_cost digits
 silent = refl
-
--- the fourth line leads from a node that isn't mentioned before it
-refused_at_4 : grid_text (codes "source,S\r\n# a note\n\ndevice,B1,breaker,A,B,closed,-\nsource,T\n") ≡ IsRefusedAt 4
-unfolding grid_text with_lines lines row_of parts_from
-refused_at_4 = refl
 
 -- skipped and refused lines, and a call that changes no cost
 refusals_printed : replay_text feeder (codes "# a note\n\n2024-03-01T10:00:00Z,gasp,M1\n2024-03-01T10:00:00Z,call,M9\n2024-03-01T10:00:00Z,call,M1\n2024-03-01T10:00:01Z,call,M1\n") ≡ codes "refused,3,NotBuilt\nrefused,4,UnknownMeter\ncost,5,30\ntotal,30\nend\n"

@@ -2,11 +2,7 @@ pub mod Lines
 pub mod Fields
 pub mod Decimals
 pub mod Stamps
-pub mod Kinds
-pub mod Rows
-pub mod GridText
 pub mod Calls
 pub mod EventText
 pub mod Output
-pub mod Laws
 pub mod LeastLaws

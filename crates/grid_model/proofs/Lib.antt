@@ -3,4 +3,6 @@ pub mod Lookup
 pub mod SoundParts
 pub mod Grouping
 pub mod AtNodes
+pub mod SmallTrees
 pub mod SmallGrid
+pub mod Started

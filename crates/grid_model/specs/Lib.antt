@@ -8,4 +8,6 @@ pub mod Sound
 pub mod Groups
 pub mod Indexed
 pub mod GridInside
+pub mod Problem
+pub mod Started
 pub mod Laws

@@ -1,7 +1,8 @@
 -- Which parts make a network.
-use Rattle.std.specs.Prelude.{◌≡◌, ◌≢◌, ℕ, ◌<◌, ◌≤◌, List, length, map, slice_index, All, AllPairs}
+use Rattle.std.specs.Prelude.{◌≡◌, ◌≢◌, true, ℕ, ◌<◌, ◌≤◌, List, length, map, slice_index, All, AllPairs}
 use Rattle.outage_rules.specs.Network.{IsRadial}
 use Rattle.grid_model.specs.Parts.{Parts}
+use Rattle.grid_model.specs.Name.{is_name}
 use Rattle.grid_model.specs.Names.{AreDistinct}
 use Rattle.grid_model.specs.Places.{device_at, meter_at}
 use Rattle.grid_model.specs.Network.{network_of}
@@ -29,8 +30,15 @@ pub record AreSoundSettings (settings : List ℕ) : Type 0 where
   pub most_weights : (k : ℕ) → k < 5 → slice_index settings k ≤ 1000000
   pub holds : (k : ℕ) → k < 8 → slice_index settings k ≤ 10000000
 
+-- the nodes, the devices and the meters have names that a text may hold
+pub record HasNames (g : Parts) : Type 0 where
+  pub nodes : All (λ name. is_name name ≡ true) g.nodes
+  pub devices : All (λ d. is_name d.name ≡ true) g.devices
+  pub meters : All (λ m. is_name m.name ≡ true) g.meters
+
 -- no name stands twice in its sort, numbers are within their ranges, and the devices that start closed close no loop
 pub record IsSoundParts (g : Parts) : Type 0 where
+  pub names : HasNames g
   pub node_names : AreDistinct g.nodes
   pub device_names : AreDistinct (map (λ d. d.name) g.devices)
   pub meter_names : AreDistinct (map (λ m. m.name) g.meters)

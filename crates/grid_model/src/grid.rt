@@ -3,6 +3,7 @@ ghost use Rattle.std.specs.Prelude.{◌≡◌, ◌≢◌, ◌==◌, ◌<◌, ◌
 ghost use Rattle.std.specs.List.{list_any};
 ghost use Rattle.grid_model.specs.Names.{AreDistinct};
 ghost use Rattle.grid_model.specs.Groups.{group_at};
+ghost use Rattle.grid_model.specs.Started.{started};
 ghost use Rattle.grid_model.specs.Indexed.{places_ending, places_standing};
 
 use crate::groups::Groups;
@@ -148,8 +149,21 @@ fn standing_of(alloc: Global, nodes: u32, meters: &[Meter]) -> Result<Groups<Met
     Groups::new(alloc, &places, nodes)?.into_meters(alloc)
 }
 
+// Sets the starting state of each device.
+fn set_states(devices: &mut [Device], closed: &[bool])
+    requires { length closed.now ≡ length devices.old }
+    ensures { devices.new ≡ started devices.old closed.now }
+{
+    for (d, device) in devices.iter_mut().enumerate() {
+        device.starts_closed = closed[d];
+    }
+}
+
 impl Grid {
-    ghost use Rattle.std.specs.Prelude.{◌≡◌, ◌<◌, Some, length, map, slice_get, IfOk, option_map, position};
+    ghost use Rattle.std.specs.Prelude.{◌≡◌, ◌<◌, Some, length, map, slice_get, slice_index_or, false, IfOk, option_map, position};
+    ghost use Rattle.outage_rules.specs.Network.{IsRadial};
+    ghost use Rattle.grid_model.specs.Network.{network_in};
+    ghost use Rattle.grid_model.specs.Started.{started};
     ghost use Rattle.grid_model.specs.Names.{name_eq};
     ghost use Rattle.grid_model.specs.Sound.{IsSoundParts};
     ghost use Rattle.grid_model.specs.Places.{device_at, meter_at, devices_at, meters_at, is_source, setting_of, customers_served};
@@ -180,6 +194,16 @@ impl Grid {
             meters,
             settings,
         })
+    }
+
+    /// The same network in other starting states: one flag a device, whether it is closed.
+    pub fn starting(mut self, closed: &[bool]) -> Grid
+        requires states { length closed.now ≡ length self.devices }
+        requires radial { IsRadial (network_in self (λ d. slice_index_or closed.now d false)) }
+        ensures { result ≡ record self { devices = started self.devices closed.now } }
+    {
+        set_states(&mut self.devices, closed);
+        self
     }
 
     /// How many nodes there are.
@@ -228,6 +252,16 @@ impl Grid {
         ensures { result ≡ device_at self.now d.0 }
     {
         self.devices[d.0 as usize]
+    }
+
+    /// The two ends of a device.
+    pub fn ends(&self, d: DeviceId) -> (NodeId, NodeId)
+        requires { d.0 < length self.now.devices }
+        ensures from { result.0 ≡ (device_at self.now d.0).from }
+        ensures to { result.1 ≡ (device_at self.now d.0).to }
+    {
+        let device = &self.devices[d.0 as usize];
+        (device.from, device.to)
     }
 
     /// The meter of a number.

@@ -11,7 +11,7 @@ mod parts;
 
 pub use grid::Grid;
 pub use history::{Confirmed, Event, Line, Mark, Outage, Refusal, Stamp, Want, What};
-pub use laws::{network_is_sound, problem_is_sound};
+pub use laws::{network_is_sound, problem_is_sound, starting_network};
 pub use name::Name;
 pub use names::Names;
 pub use parts::{Device, DeviceId, GridParts, Kind, Meter, MeterId, NodeId, Setting};

@@ -134,5 +134,10 @@ fn builds_a_small_network(rt: HostRuntime) -> Result<(), AllocError> {
     );
     check_device(&rt, &grid, 1, device(&rt, b"F1", Kind::Fuse, 1, 2, 40));
     check_meter(&rt, &grid, 1, meter(&rt, b"M2", 2, 20));
+    assert!(rt; grid.devices() == 4);
+    let opened = grid.starting(&[false; 4]);
+    let mut fuse = device(&rt, b"F1", Kind::Fuse, 1, 2, 40);
+    fuse.starts_closed = false;
+    check_device(&rt, &opened, 1, fuse);
     Ok(())
 }

@@ -5,11 +5,11 @@ use Rattle.std.proofs.lemmas.List.Sums.{fold-append, fold_more}
 use Rattle.event_rules.specs.Decimals.{value_of}
 
 -- the number so far and one more digit
-abbrev with_digit : ℕ → ℕ → ℕ
+abbrev pub with_digit : ℕ → ℕ → ℕ
 with_digit value b = 10 * value + (b - 48)
 
 -- more digits write no smaller number
-value-le : (a : ℕ) (xs : List ℕ) → a ≤ fold with_digit a xs
+pub value-le : (a : ℕ) (xs : List ℕ) → a ≤ fold with_digit a xs
 value-le a [] = omega arith
 value-le a (b ∷ xs) = omega (arith, value-le (with_digit a b) xs)
 

@@ -1,5 +1,10 @@
 pub mod CutPlaces
 pub mod LineParts
+pub mod CutLines
 pub mod FieldParts
+pub mod RecordParts
+pub mod RowParts
+pub mod ShownLines
 pub mod DecimalValues
 pub mod DecimalSteps
+pub mod DecimalTexts

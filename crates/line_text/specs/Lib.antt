@@ -1,2 +1,4 @@
 pub mod FieldsLeft
 pub mod LineEnds
+pub mod Cutting
+pub mod Laws

@@ -32,7 +32,8 @@ fn value_of_digits(digits: &[u8]) -> Option<u64>
     Some(value)
 }
 
-/// The number of a decimal in its one spelling that is at most this.
+/// The number that a text writes in its one spelling, ASCII digits without a needless leading zero,
+/// where it is at most `most`; none for any other text.
 pub fn read_decimal(text: &[u8], most: u64) -> Option<u64>
     ensures value { result ≡ decimal_within 0 most text.now }
     ensures bound { IfSome result (λ n. n ≤ most) }

@@ -9,7 +9,7 @@ use crate::cuts::{begins_with_byte, cut_at};
 pub const MOST_LINE: usize = 512;
 
 // What stands before an LF, without a CR as its last byte.
-fn strip_cr(line: &[u8]) -> &[u8]
+pub(crate) fn strip_cr(line: &[u8]) -> &[u8]
     ensures { result.now ≡ without_cr line.now }
 {
     match line {

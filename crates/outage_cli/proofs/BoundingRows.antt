@@ -17,7 +17,8 @@ use Rattle.outage_rules.proofs.Flags.{flags_are_diagnosis}
 use Rattle.outage_rules.proofs.Least.{one_least, least_is_least}
 use Rattle.grid_model.specs.declared.parts.NodeId.{NodeId}
 use Rattle.grid_model.specs.declared.parts.DeviceId.{DeviceId}
-use Rattle.diagnosis.specs.Judgement.{Judgement, IsJudged, table_of, opened_by, is_dark_by, parent_in, number_of_device, flagged}
+use Rattle.radial_forest.specs.Traversed.{parent_in, number_of_device}
+use Rattle.diagnosis.specs.Judgement.{Judgement, IsJudged, table_of, opened_by, is_dark_by, flagged}
 use Rattle.bound_table.specs.declared.bounds.BoundRow.{BoundRow}
 use Rattle.bound_table.specs.Table.{Table}
 use Rattle.bound_table.specs.Tight.{row_at, cuts_of, rows_of, tight_bounds}

@@ -1,9 +1,4 @@
 pub mod WordLists
-pub mod DeviceRows
-pub mod DraftNames
-pub mod DraftRows
-pub mod GridSteps
-pub mod RowSorts
 pub mod StampShape
 pub mod RunEnds
 pub mod CallWeights
@@ -16,4 +11,7 @@ pub mod BoundingRows
 pub mod BoundingRange
 pub mod CallVerdicts
 pub mod OutputParts
+pub mod LinesBefore
+pub mod OwnReport
+pub mod OwnRun
 pub mod VerdictPlaces

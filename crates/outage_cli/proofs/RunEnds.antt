@@ -1,10 +1,10 @@
 -- What holds where a run ends.
-use Rattle.std.proofs.Common.{◌≡◌, ◌<◌, ◌≤◌, ℕ, Bool, List, [], length, Option, None, Some, arith, sym, ◌∙◌, ap, subst, refl}
-use Rattle.std.specs.Prelude.{◌⊎◌}
+use Rattle.std.proofs.Common.{◌≡◌, ◌<◌, ◌≤◌, ℕ, Bool, List, [], length, Option, None, Some, arith, sym, ◌∙◌, ap, subst}
 use Rattle.std.specs.Io.KnownBytes.{Appends}
 use Rattle.outage_rules.specs.Diagnosis.{IsDiagnosis, IsLeastCost}
 use Rattle.grid_model.specs.Parts.{Parts}
-use Rattle.event_rules.specs.GridText.{GridReading, grid_text, IsGrid, IsRefusedAt}
+use Rattle.grid_reader.specs.Text.{grid_text, IsGrid, IsRefusedAt}
+use Rattle.grid_reader.specs.declared.fault.GridRule.{GridRule}
 use Rattle.event_rules.specs.Calls.{problem_of, least_of, diagnosis_of}
 use Rattle.bound_table.specs.Table.{Table}
 use Rattle.bound_table.specs.Report.{ReportReading, report_reading, IsRead, IsRefused}
@@ -19,7 +19,7 @@ use Rattle.bound_checker.specs.declared.rules.Verdict.TheVariants.{Invalid}
 use Rattle.outage_ports.specs.Bytes.{Files, AppendsPrefix}
 use Rattle.outage_cli.specs.Form.{Places, Replay, Check}
 use Rattle.outage_cli.specs.Whole.{IsWhole}
-use Rattle.outage_cli.specs.Files.{IsTooLong, RefusesNetworkAt, RefusesReportAt}
+use Rattle.outage_cli.specs.Files.{IsTooLong, RefusesNetworkAt}
 use Rattle.outage_cli.specs.Told.{output, verdict_on, verdict_text}
 use Rattle.outage_cli.specs.Run.{CanReplay, CanCheck, IsDone, IsInvalid, IsPart, IsReportRefused, IsDue, IsOver, RefusesReport}
 use Rattle.outage_cli.specs.declared.status.Status.{Status}
@@ -37,7 +37,7 @@ not_risen a b c first second rose = absurd (below a b c first second rose)
 pub record ReadsTwo (files same : Option Files) (first left : Option (List ℕ)) (places : Places) (net events : List ℕ) (parts : Parts) : Type 0 where
   pub same_files : same ≡ files
   pub net_whole : IsWhole files first places.net net
-  pub net_fits : length net ≤ 1048576
+  pub net_fits : length net ≤ 67108864
   pub grid : grid_text net ≡ IsGrid parts
   pub events_whole : IsWhole same left places.events events
   pub events_fit : length events ≤ 1048576
@@ -166,19 +166,19 @@ pub check_due : (files same last : Option Files) (first second left : Option (Li
 check_due None same last first second left places report net events bytes parts bounds status r read = tt
 check_due (Some files) same last first second left places report net events bytes parts bounds status r read = record {
   over = λ which o. absurd (not_over which o);
-  network = λ line refuses. absurd (not_refused line refuses);
+  network = λ line rule refuses. absurd (not_refused line rule refuses);
   report = λ line rule refuses. absurd (not_report line rule refuses);
 }
   where
     not_over : (which : Which) → IsOver files (Check places report) which → ⊥
-    not_over NetworkBytes o = not_too_long files places.net net 1048576 r.two.net_whole.0 r.two.net_fits o
+    not_over NetworkBytes o = not_too_long files places.net net 67108864 r.two.net_whole.0 r.two.net_fits o
     not_over EventBytes o = not_too_long files places.events events 1048576 (can_replay files same first second places net events parts r.two).0.event_file.are r.two.events_fit o.1
     not_over ReportBytes o = not_too_long files report bytes 268435456 (report_read files same last first second left places report net events bytes parts r).0 r.report_fits o.1
 
-    not_refused : (line : ℕ) → RefusesNetworkAt files places.net line → ⊥
-    not_refused line refuses =
+    not_refused : (line : ℕ) (rule : GridRule) → RefusesNetworkAt files places.net line rule → ⊥
+    not_refused line rule refuses =
         let same_net = one_text net refuses.bytes (files places.net) r.two.net_whole.0 refuses.file.are in
-        let e : IsGrid parts ≡ IsRefusedAt line = sym r.two.grid ∙ ap grid_text same_net ∙ refuses.refused in cc
+        let e : IsGrid parts ≡ IsRefusedAt line rule = sym r.two.grid ∙ ap grid_text same_net ∙ refuses.refused in cc
 
     not_report : (line : ℕ) (rule : BoundRule) → RefusesReport files (Check places report) line rule → ⊥
     not_report line rule refuses =

@@ -6,22 +6,21 @@ use Rattle.std.proofs.lemmas.List.{get_or-set_same, get_or-set_other, length-set
 use Rattle.outage_rules.specs.Network.{Problem}
 use Rattle.outage_rules.specs.Diagnosis.{cost, IsDiagnosis}
 use Rattle.outage_rules.specs.Laws.{IsWithin}
-use Rattle.outage_rules.specs.TreeOrder.{IsInTreeOrder}
 use Rattle.outage_rules.specs.Reference.{reference_cut, least_cost}
 use Rattle.grid_model.specs.Parts.{Parts}
 use Rattle.grid_model.specs.Sound.{IsSoundParts}
 use Rattle.grid_model.specs.Places.{meter_at, node_of, setting_of}
-use Rattle.grid_model.specs.Network.{network_of, problem_with}
+use Rattle.grid_model.specs.Network.{problem_with}
 use Rattle.grid_model.specs.declared.history.Mark.TheVariants.{Nothing}
 use Rattle.grid_model.specs.declared.parts.Meter.{Meter}
 use Rattle.grid_model.specs.declared.parts.Setting.TheVariants.{Call}
 use Rattle.event_rules.specs.Calls.{has_called, dark_at, problem_of, least_of, diagnosis_of}
-use Rattle.diagnosis.specs.Problem as posed_by
-use Rattle.diagnosis.specs.Judgement.{Judgement, IsSized, IsJudged, opened_by}
+use Rattle.grid_model.specs.Problem as posed_by
+use Rattle.diagnosis.specs.Judgement.{Judgement, IsSized, IsJudged, IsOfNetwork, opened_by}
 use Rattle.outage_cli.specs.declared.tally.Tally.{Tally}
 use Rattle.outage_cli.specs.Tallied.{Tallies}
 use Rattle.outage_cli.proofs.CallWeights.{called_again, dark_again, problem_again, dark_none, dark_more, dark_small, sum_small}
-use Rattle.outage_cli.proofs.Diagnosed.{replicate_same, poses_calls, poses_none, diagnosis_is, diagnosis_costs}
+use Rattle.outage_cli.proofs.Diagnosed.{replicate_same, states, poses_calls, poses_none, diagnosis_is, diagnosis_costs}
 
 -- what a tally takes of the judgement of a problem
 pub record Judges (p : Problem) (j : Judgement) : Type 0 where
@@ -65,6 +64,7 @@ module _ (g : Parts) (calls : List ℕ) (m : ℕ) (t : Tally) (within : m < leng
         live = tallied.live;
         closed = tallied.closed;
         marks = tallied.marks;
+        own = tallied.own;
         judged = subst (λ p. IsJudged p t.judged) same tallied.judged;
         opened = tallied.opened ∙ ap reference_cut same;
         cost = tallied.cost ∙ ap least_cost same;
@@ -110,10 +110,10 @@ module _ (g : Parts) (calls : List ℕ) (m : ℕ) (t : Tally) (within : m < leng
       (cases_eq m k)
 
   -- the tally after a first call
-  pub tallies_more : IsInTreeOrder (network_of g) → (u : Tally) → u.called.items ≡ set t.called.items m true → u.dark.items ≡ weights
+  pub tallies_more : (u : Tally) → u.called.items ≡ set t.called.items m true → u.dark.items ≡ weights
       → u.live.items ≡ t.live.items → u.closed.items ≡ t.closed.items → u.marks.items ≡ t.marks.items
-      → Judges (posed_by.problem_of g u.closed.items u.marks.items u.dark.items u.live.items) u.judged → Tallies g (m ∷ calls) u
-  tallies_more order u flags dark live closed marks judges = record {
+      → Judges (posed_by.problem_of g u.closed.items u.marks.items u.dark.items u.live.items) u.judged → IsOfNetwork g u.judged → Tallies g (m ∷ calls) u
+  tallies_more u flags dark live closed marks judges own = record {
     sound = tallied.sound;
     meters = ap length flags ∙ length-set t.called.items m true ∙ tallied.meters;
     called = λ k l. ap (λ xs. get_or xs k false) flags ∙ flags_are k l;
@@ -122,6 +122,7 @@ module _ (g : Parts) (calls : List ℕ) (m : ℕ) (t : Tally) (within : m < leng
     live = live ∙ tallied.live;
     closed = closed ∙ tallied.closed;
     marks = marks ∙ tallied.marks;
+    own = own;
     judged = at_calls.judged;
     opened = opened_is;
     cost = at_calls.cost ∙ ap (cost (problem_of g (m ∷ calls))) opened_is ∙ diagnosis_costs g (m ∷ calls) tallied.sound;
@@ -133,9 +134,9 @@ module _ (g : Parts) (calls : List ℕ) (m : ℕ) (t : Tally) (within : m < leng
       at_calls : Judges (problem_of g (m ∷ calls)) u.judged
       at_calls =
           let poses = ap (λ xs. posed_by.problem_of g xs u.marks.items u.dark.items u.live.items) (closed ∙ tallied.closed)
-          ∙ ap (λ xs. posed_by.problem_of g (replicate (length g.devices) true) xs u.dark.items u.live.items) (marks ∙ tallied.marks)
-          ∙ ap (λ xs. posed_by.problem_of g (replicate (length g.devices) true) (replicate (length g.devices) Nothing) u.dark.items xs) (live ∙ tallied.live)
-          ∙ poses_calls g (m ∷ calls) order u.dark.items weighs in
+          ∙ ap (λ xs. posed_by.problem_of g (states g) xs u.dark.items u.live.items) (marks ∙ tallied.marks)
+          ∙ ap (λ xs. posed_by.problem_of g (states g) (replicate (length g.devices) Nothing) u.dark.items xs) (live ∙ tallied.live)
+          ∙ poses_calls g (m ∷ calls) u.dark.items weighs in
           subst (λ p. Judges p u.judged) poses judges
 
       opened_is : opened_by u.judged ≡ diagnosis_of g (m ∷ calls)
@@ -153,9 +154,9 @@ module _ (g : Parts) (calls : List ℕ) (m : ℕ) (t : Tally) (within : m < leng
 
 -- the tally of no calls
 pub tallies_none : (g : Parts) (t : Tally) → IsSoundParts g → t.called.items ≡ replicate (length g.meters) false → t.dark.items ≡ replicate (length g.nodes) 0
-    → t.live.items ≡ replicate (length g.nodes) 0 → t.closed.items ≡ replicate (length g.devices) true → t.marks.items ≡ replicate (length g.devices) Nothing
-    → Judges (problem_with g (λ n. 0)) t.judged → Tallies g [] t
-tallies_none g t sound flags dark live closed marks judges =
+    → t.live.items ≡ replicate (length g.nodes) 0 → t.closed.items ≡ states g → t.marks.items ≡ replicate (length g.devices) Nothing
+    → Judges (problem_with g (λ n. 0)) t.judged → IsOfNetwork g t.judged → Tallies g [] t
+tallies_none g t sound flags dark live closed marks judges own =
     let at_none = subst (λ p. Judges p t.judged) (poses_none g) judges in
     let opened_is = diagnosis_is g [] sound (opened_by t.judged) at_none.diagnosis at_none.within in
     record {
@@ -167,6 +168,7 @@ tallies_none g t sound flags dark live closed marks judges =
       live = live;
       closed = closed;
       marks = marks;
+      own = own;
       judged = at_none.judged;
       opened = opened_is;
       cost = at_none.cost ∙ ap (cost (problem_of g [])) opened_is ∙ diagnosis_costs g [] sound;

@@ -2,7 +2,8 @@
 use Rattle.std.specs.Prelude.{ℕ, Bool, List, map, filter, slice_index, is_some, unwrap_or}
 use Rattle.std.specs.List.{range_with_len}
 use Rattle.bound_table.specs.declared.bounds.BoundRow.{BoundRow}
-use Rattle.diagnosis.specs.Judgement.{Judgement, parent_in, depth_in}
+use Rattle.radial_forest.specs.Traversed.{parent_in, depth_in}
+use Rattle.diagnosis.specs.Judgement.{Judgement}
 
 -- a node is fed where it has a depth
 abbrev pub is_fed : Judgement → ℕ → Bool

@@ -2,14 +2,11 @@ pub mod Form
 pub mod Places
 pub mod Whole
 pub mod Number
-pub mod Draft
-pub mod GridReader
-pub mod RowFields
-pub mod RowSorts
 pub mod StampMarks
 pub mod Told
 pub mod Files
 pub mod Run
+pub mod RoundTrip
 pub mod Tallied
 pub mod Changes
 pub mod Bounding

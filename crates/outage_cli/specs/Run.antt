@@ -4,6 +4,7 @@ use Rattle.std.specs.Io.KnownBytes.{Appends}
 use Rattle.outage_rules.specs.Diagnosis.{IsDiagnosis, IsLeastCost}
 use Rattle.grid_model.specs.Parts.{Parts}
 use Rattle.event_rules.specs.Calls.{problem_of, least_of, diagnosis_of}
+use Rattle.grid_reader.specs.declared.fault.GridRule.{GridRule}
 use Rattle.bound_table.specs.Table.{Table}
 use Rattle.bound_table.specs.declared.bounds.BoundRule.{BoundRule}
 use Rattle.bound_checker.specs.declared.rules.CheckRule.{CheckRule}
@@ -12,9 +13,8 @@ use Rattle.bound_checker.specs.declared.rules.Verdict.{Verdict}
 use Rattle.bound_checker.specs.declared.rules.Verdict.TheVariants as verdict
 use Rattle.outage_ports.specs.Bytes.{Files, AppendsPrefix}
 use Rattle.outage_cli.specs.Form.{Places, Command, Replay, Check}
-use Rattle.outage_cli.specs.Files.{most_bytes, most_report, IsTooLong, IsWithin, SaysNetwork, RefusesNetworkAt, SaysBounds, RefusesReportAt}
+use Rattle.outage_cli.specs.Files.{most_network, most_events, most_report, IsTooLong, IsWithin, SaysNetwork, RefusesNetworkAt, SaysBounds, RefusesReportAt}
 use Rattle.outage_cli.specs.Told.{output, verdict_on, verdict_text}
-use Rattle.outage_cli.specs.declared.grid_reader.GridRule.TheVariants.{NotInOrder}
 use Rattle.outage_cli.specs.declared.status.Status.{Status}
 use Rattle.outage_cli.specs.declared.status.Status.TheVariants.{Done, Invalid, WriteFault, Memory, Limit, NetworkRefused, ReportRefused}
 use Rattle.outage_cli.specs.declared.status.Which.{Which}
@@ -32,7 +32,7 @@ pub record CanReplay (files : Files) (places : Places) : Type 0 where
   pub parts : Parts
   pub events : List ℕ
   pub network : SaysNetwork files places.net parts
-  pub event_file : IsWithin files places.events most_bytes events
+  pub event_file : IsWithin files places.events most_events events
 
 -- the files of a check: those of a replay, and a report with bounds, of which the local check says this
 pub record CanCheck (files : Files) (places : Places) (report : List ℕ) (verdict : Verdict) : Type 0 where
@@ -40,7 +40,7 @@ pub record CanCheck (files : Files) (places : Places) (report : List ℕ) (verdi
   pub events : List ℕ
   pub bounds : Table
   pub network : SaysNetwork files places.net parts
-  pub event_file : IsWithin files places.events most_bytes events
+  pub event_file : IsWithin files places.events most_events events
   pub report_file : SaysBounds files report parts bounds
   pub verdict_is : verdict_on parts events bounds ≡ verdict
 
@@ -101,11 +101,11 @@ abbrev pub places_in : Command → Places
 places_in (Replay places with_bounds) = places
 places_in (Check places report) = places
 
--- the network is refused at this line
-abbrev pub IsRefused : Option Files → Option Command → ℕ → Type 0
-IsRefused None command line = ⊤
-IsRefused (Some files) None line = ⊥
-IsRefused (Some files) (Some command) line = RefusesNetworkAt files (places_in command).net line
+-- the network is refused at this line by this rule
+abbrev pub IsRefused : Option Files → Option Command → ℕ → GridRule → Type 0
+IsRefused None command line rule = ⊤
+IsRefused (Some files) None line rule = ⊥
+IsRefused (Some files) (Some command) line rule = RefusesNetworkAt files (places_in command).net line rule
 
 -- the files of a replay are fine, and the report is refused at this line by this rule
 abbrev pub RefusesReport : Files → Command → ℕ → BoundRule → Type 0
@@ -124,8 +124,8 @@ HasLongReport files (Check places report) = CanReplay files places × IsTooLong 
 
 -- which file is too long: the files stand in the order in which they are read
 abbrev pub IsOver : Files → Command → Which → Type 0
-IsOver files command NetworkBytes = IsTooLong files (places_in command).net most_bytes
-IsOver files command EventBytes = ((parts : Parts) × SaysNetwork files (places_in command).net parts) × IsTooLong files (places_in command).events most_bytes
+IsOver files command NetworkBytes = IsTooLong files (places_in command).net most_network
+IsOver files command EventBytes = ((parts : Parts) × SaysNetwork files (places_in command).net parts) × IsTooLong files (places_in command).events most_events
 IsOver files command ReportBytes = HasLongReport files command
 
 abbrev pub IsLimit : Option Files → Option Command → Which → Type 0
@@ -136,7 +136,7 @@ IsLimit (Some files) (Some command) which = IsOver files command which
 -- where no read failed, a limit that is met and a text that is refused are answered so, unless memory ran out
 pub record AnswersCauses (files : Files) (command : Command) (status : Status) : Type 0 where
   pub over : (which : Which) → IsOver files command which → (status ≡ Limit which) ⊎ (status ≡ Memory)
-  pub network : (line : ℕ) → RefusesNetworkAt files (places_in command).net line → (status ≡ NetworkRefused line NotInOrder) ⊎ (status ≡ Memory)
+  pub network : (line : ℕ) (rule : GridRule) → RefusesNetworkAt files (places_in command).net line rule → (status ≡ NetworkRefused line rule) ⊎ (status ≡ Memory)
   pub report : (line : ℕ) (rule : BoundRule) → RefusesReport files command line rule → (status ≡ ReportRefused line rule) ⊎ (status ≡ Memory)
 
 abbrev pub IsDue : Option Files → Option Command → Status → Type 0

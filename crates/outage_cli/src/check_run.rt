@@ -3,19 +3,19 @@ ghost use Rattle.std.specs.Prelude.{◌≡◌, ◌<◌, ◌≤◌, ℕ, Some};
 ghost use Rattle.outage_ports.specs.Causes.{Rose};
 ghost use Rattle.bound_table.specs.declared.bounds.BoundRule.{BoundRule};
 ghost use Rattle.bound_checker.specs.declared.rules.CheckRule.{CheckRule};
-ghost use Rattle.outage_cli.specs.declared.grid_reader.GridRule.{GridRule};
+ghost use Rattle.grid_reader.specs.declared.fault.GridRule.{GridRule};
 ghost use Rattle.outage_cli.specs.declared.status.Which.{Which};
 ghost use Rattle.outage_cli.specs.Form.{Check};
 ghost use Rattle.outage_cli.specs.Places.{places_view};
 ghost use Rattle.outage_cli.specs.Run.{IsSilent, IsDone, IsInvalid, IsRefused, IsReportRefused, IsLimit, IsPart, IsComplete, IsDue};
 
 use crate::told::{text_of, verdict_of};
-use crate::whole::{MOST_BYTES, MOST_REPORT, Stop, read_whole};
+use crate::whole::{MOST_EVENTS, MOST_NETWORK, MOST_REPORT, Stop, read_whole};
 use crate::words::Places;
-use crate::{GridFault, Status, Which, read_grid};
+use crate::{Status, Which};
 use bound_checker::Verdict;
 use bound_table::{BoundFault, read_bounds};
-use event_rules::text_is_in_tree_order;
+use grid_reader::{GridFault, read_grid};
 use outage_ports::{Shelf, Sink, put_all};
 use std::alloc::Global;
 
@@ -39,7 +39,7 @@ pub fn run_check<S: Shelf, K: Sink>(
     ensures write_risen { K.faults out.old < K.faults out.new → result ≡ Status.WriteFault }
     ensures done { result ≡ Status.Done → IsDone (S.files shelf.old) (S.left shelf.new) (K.written out.old) (K.written out.new) (Some (Check (places_view places.entry) report.now)) }
     ensures invalid { (rule : CheckRule) → result ≡ Status.Invalid rule → IsInvalid (S.files shelf.old) (S.left shelf.new) (K.written out.old) (K.written out.new) (Some (Check (places_view places.entry) report.now)) rule }
-    ensures refused { (line : ℕ) (rule : GridRule) → result ≡ Status.NetworkRefused line rule → IsRefused (S.files shelf.old) (Some (Check (places_view places.entry) report.now)) line }
+    ensures refused { (line : ℕ) (rule : GridRule) → result ≡ Status.NetworkRefused line rule → IsRefused (S.files shelf.old) (Some (Check (places_view places.entry) report.now)) line rule }
     ensures report { (line : ℕ) (rule : BoundRule) → result ≡ Status.ReportRefused line rule → IsReportRefused (S.files shelf.old) (Some (Check (places_view places.entry) report.now)) line rule }
     ensures limit { (which : Which) → result ≡ Status.Limit which → IsLimit (S.files shelf.old) (Some (Check (places_view places.entry) report.now)) which }
     ensures idle { IsSilent result → out.new ≡ out.old }
@@ -48,7 +48,7 @@ pub fn run_check<S: Shelf, K: Sink>(
         → IsComplete (S.files shelf.old) (Some (Check (places_view places.entry) report.now)) result }
     ensures due { (Rose (S.faults shelf.old) (S.faults shelf.new) → ⊥) → IsDue (S.files shelf.old) (Some (Check (places_view places.entry) report.now)) result }
 {
-    let net = match read_whole(alloc, shelf, places.net, MOST_BYTES) {
+    let net = match read_whole(alloc, shelf, places.net, MOST_NETWORK) {
         Ok(net) => net,
         Err(Stop::Failed) => return Status::ReadFault,
         Err(Stop::TooLong) => return Status::Limit {
@@ -61,8 +61,7 @@ pub fn run_check<S: Shelf, K: Sink>(
         Err(GridFault::Refused { line, rule }) => return Status::NetworkRefused { line, rule },
         Err(GridFault::Memory) => return Status::Memory,
     };
-    text_is_in_tree_order();
-    let events = match read_whole(alloc, shelf, places.events, MOST_BYTES) {
+    let events = match read_whole(alloc, shelf, places.events, MOST_EVENTS) {
         Ok(events) => events,
         Err(Stop::Failed) => return Status::ReadFault,
         Err(Stop::TooLong) => return Status::Limit {

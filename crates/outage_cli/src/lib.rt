@@ -4,14 +4,11 @@
 
 mod bounds;
 mod check_run;
-mod draft;
 mod event_line;
-mod grid_reader;
-mod kinds;
 mod main_call;
 mod replay;
 mod replay_run;
-mod rows;
+mod round_trip;
 mod stamps;
 mod status;
 mod tally;
@@ -19,8 +16,8 @@ mod told;
 mod whole;
 mod words;
 
-pub use grid_reader::{GridFault, GridRule, read_grid};
 pub use main_call::outage_main;
+pub use round_trip::replay_is_valid;
 pub use status::{Status, Which};
 
 #[cfg(test)]

@@ -3,14 +3,16 @@ ghost use Rattle.std.specs.Prelude.{◌≡◌, ◌↔◌, ◌<◌, ◌≤◌, �
 ghost use Rattle.outage_ports.specs.Causes.{Rose};
 ghost use Rattle.bound_table.specs.declared.bounds.BoundRule.{BoundRule};
 ghost use Rattle.bound_checker.specs.declared.rules.CheckRule.{CheckRule};
-ghost use Rattle.outage_cli.specs.declared.grid_reader.GridRule.{GridRule};
+ghost use Rattle.grid_reader.specs.declared.fault.GridRule.{GridRule};
 ghost use Rattle.outage_cli.specs.declared.status.Which.{Which};
 ghost use Rattle.outage_cli.specs.Form.{command_of, Allows};
 ghost use Rattle.outage_cli.specs.Run.{IsSilent, IsDone, IsInvalid, IsRefused, IsReportRefused, IsLimit, IsPart, IsComplete, IsDue};
+ghost use Rattle.outage_cli.specs.RoundTrip.{IsOwnConfirmed};
 
 use crate::Status;
 use crate::check_run::run_check;
 use crate::replay_run::run_replay;
+use crate::round_trip::replay_is_valid;
 use crate::words::{Command, read_words};
 use outage_ports::{Shelf, Sink};
 use std::alloc::Global;
@@ -41,7 +43,7 @@ pub fn outage_main<S: Shelf, K: Sink>(
     ensures write_risen { K.faults out.old < K.faults out.new → result ≡ Status.WriteFault }
     ensures done { result ≡ Status.Done → IsDone (S.files shelf.old) (S.left shelf.new) (K.written out.old) (K.written out.new) (command_of (map string_bytes words.now)) }
     ensures invalid { (rule : CheckRule) → result ≡ Status.Invalid rule → IsInvalid (S.files shelf.old) (S.left shelf.new) (K.written out.old) (K.written out.new) (command_of (map string_bytes words.now)) rule }
-    ensures refused { (line : ℕ) (rule : GridRule) → result ≡ Status.NetworkRefused line rule → IsRefused (S.files shelf.old) (command_of (map string_bytes words.now)) line }
+    ensures refused { (line : ℕ) (rule : GridRule) → result ≡ Status.NetworkRefused line rule → IsRefused (S.files shelf.old) (command_of (map string_bytes words.now)) line rule }
     ensures report { (line : ℕ) (rule : BoundRule) → result ≡ Status.ReportRefused line rule → IsReportRefused (S.files shelf.old) (command_of (map string_bytes words.now)) line rule }
     ensures limit { (which : Which) → result ≡ Status.Limit which → IsLimit (S.files shelf.old) (command_of (map string_bytes words.now)) which }
     ensures idle { IsSilent result → out.new ≡ out.old }
@@ -49,7 +51,12 @@ pub fn outage_main<S: Shelf, K: Sink>(
     ensures complete { (Rose (S.faults shelf.old) (S.faults shelf.new) → ⊥) → (Rose (K.faults out.old) (K.faults out.new) → ⊥)
         → IsComplete (S.files shelf.old) (command_of (map string_bytes words.now)) result }
     ensures due { (Rose (S.faults shelf.old) (S.faults shelf.new) → ⊥) → IsDue (S.files shelf.old) (command_of (map string_bytes words.now)) result }
+
+    // What a replay wrote with its bounds is found valid, by the same network and events.
+    ensures own_report { (Rose (S.faults shelf.old) (S.faults shelf.new) → ⊥) → (Rose (K.faults out.old) (K.faults out.new) → ⊥)
+        → IsOwnConfirmed (S.files shelf.old) (K.written out.old) (K.written out.new) (command_of (map string_bytes words.now)) result }
 {
+    replay_is_valid();
     match read_words(words) {
         Some(Command::Replay(places, with_bounds)) => {
             run_replay(alloc, places, with_bounds, shelf, out)

@@ -1,7 +1,5 @@
 //! The replay of an event text.
 ghost use Rattle.std.specs.Prelude.{◌≡◌, ◌≤◌, ◌<◌, ℕ, List, ◌∷◌, [], ◌++◌, true, false, length, All, codes, decimal, IfOk, OnOk};
-ghost use Rattle.outage_rules.specs.TreeOrder.{IsInTreeOrder};
-ghost use Rattle.grid_model.specs.Network.{network_of};
 ghost use Rattle.event_rules.specs.Lines.{lines};
 ghost use Rattle.event_rules.specs.EventText.{event_of};
 ghost use Rattle.event_rules.specs.Output.{row, rule_word, calls_after, calls_in, changes, cost_row, entry, replay_text};
@@ -119,7 +117,6 @@ fn take_call(
     line: u32,
     meter: MeterId,
 ) -> Result<(), AllocError>
-    requires order { IsInTreeOrder (network_of grid.now) }
     requires known { meter.0 < length grid.now.meters }
     requires tally { IsTally grid.now tally.old }
     ensures calls { OnOk result ((calls : List ℕ) → Tallies grid.now calls tally.old → Tallies grid.now (meter.0 ∷ calls) tally.new) }
@@ -142,7 +139,6 @@ fn take_line(
     number: u32,
     line: &[u8],
 ) -> Result<(), AllocError>
-    requires order { IsInTreeOrder (network_of grid.now) }
     requires tally { IsTally grid.now tally.old }
     ensures calls { OnOk result ((calls : List ℕ) → Tallies grid.now calls tally.old → Tallies grid.now (calls_after calls (event_of grid.now line.now)) tally.new) }
     ensures printed { OnOk result ((calls : List ℕ) → Tallies grid.now calls tally.old
@@ -157,10 +153,9 @@ fn take_line(
 
 /// All that a replay of an event text prints: an entry for each line that is refused, and for each
 /// call the devices that leave and enter the diagnosis and the least cost where that changes; then
-/// the least cost of all calls, and the end. With it the tally of all calls. The network's devices
-/// stand in tree order, and the text has at most 1,048,576 bytes.
+/// the least cost of all calls, and the end. With it the tally of all calls. The text has at most
+/// 1,048,576 bytes.
 pub(crate) fn replay(alloc: Global, grid: &Grid, events: &[u8]) -> Result<Replayed, AllocError>
-    requires order { IsInTreeOrder (network_of grid.now) }
     requires few { length events.now ≤ 1_048_576 }
     ensures printed { IfOk result (λ r. r.printed.items ≡ replay_text grid.now events.now) }
     ensures tally { IfOk result (λ r. Tallies grid.now (calls_in grid.now [] (lines events.now)) r.tally) }
@@ -183,7 +178,6 @@ pub(crate) fn replay(alloc: Global, grid: &Grid, events: &[u8]) -> Result<Replay
 
 /// The tally of all calls of an event text, as after its replay.
 pub(crate) fn tally_events(alloc: Global, grid: &Grid, events: &[u8]) -> Result<Tally, AllocError>
-    requires order { IsInTreeOrder (network_of grid.now) }
     requires few { length events.now ≤ 1_048_576 }
     ensures { IfOk result (λ tally. Tallies grid.now (calls_in grid.now [] (lines events.now)) tally) }
 {

@@ -3,19 +3,18 @@ ghost use Rattle.std.specs.Prelude.{◌≡◌, ◌<◌, ◌≤◌, ℕ, Some};
 ghost use Rattle.outage_ports.specs.Causes.{Rose};
 ghost use Rattle.bound_table.specs.declared.bounds.BoundRule.{BoundRule};
 ghost use Rattle.bound_checker.specs.declared.rules.CheckRule.{CheckRule};
-ghost use Rattle.outage_cli.specs.declared.grid_reader.GridRule.{GridRule};
+ghost use Rattle.grid_reader.specs.declared.fault.GridRule.{GridRule};
 ghost use Rattle.outage_cli.specs.declared.status.Which.{Which};
 ghost use Rattle.outage_cli.specs.Form.{Replay};
 ghost use Rattle.outage_cli.specs.Places.{places_view};
 ghost use Rattle.outage_cli.specs.Run.{IsSilent, IsDone, IsInvalid, IsRefused, IsReportRefused, IsLimit, IsPart, IsComplete, IsDue};
 
 use crate::told::output_of;
-use crate::whole::{MOST_BYTES, Stop, read_whole};
+use crate::whole::{MOST_EVENTS, MOST_NETWORK, Stop, read_whole};
 use crate::words::Places;
-use crate::{GridFault, Status, Which, read_grid};
-use event_rules::{
-    diagnosis_of_is_diagnosis, least_of_is_least, text_is_in_tree_order, text_is_sound,
-};
+use crate::{Status, Which};
+use event_rules::{diagnosis_of_is_diagnosis, least_of_is_least};
+use grid_reader::{GridFault, read_grid, text_is_sound};
 use outage_ports::{Shelf, Sink, put_all};
 use std::alloc::Global;
 
@@ -38,7 +37,7 @@ pub fn run_replay<S: Shelf, K: Sink>(
     ensures write_risen { K.faults out.old < K.faults out.new → result ≡ Status.WriteFault }
     ensures done { result ≡ Status.Done → IsDone (S.files shelf.old) (S.left shelf.new) (K.written out.old) (K.written out.new) (Some (Replay (places_view places.entry) with_bounds)) }
     ensures invalid { (rule : CheckRule) → result ≡ Status.Invalid rule → IsInvalid (S.files shelf.old) (S.left shelf.new) (K.written out.old) (K.written out.new) (Some (Replay (places_view places.entry) with_bounds)) rule }
-    ensures refused { (line : ℕ) (rule : GridRule) → result ≡ Status.NetworkRefused line rule → IsRefused (S.files shelf.old) (Some (Replay (places_view places.entry) with_bounds)) line }
+    ensures refused { (line : ℕ) (rule : GridRule) → result ≡ Status.NetworkRefused line rule → IsRefused (S.files shelf.old) (Some (Replay (places_view places.entry) with_bounds)) line rule }
     ensures report { (line : ℕ) (rule : BoundRule) → result ≡ Status.ReportRefused line rule → IsReportRefused (S.files shelf.old) (Some (Replay (places_view places.entry) with_bounds)) line rule }
     ensures limit { (which : Which) → result ≡ Status.Limit which → IsLimit (S.files shelf.old) (Some (Replay (places_view places.entry) with_bounds)) which }
     ensures idle { IsSilent result → out.new ≡ out.old }
@@ -47,7 +46,7 @@ pub fn run_replay<S: Shelf, K: Sink>(
         → IsComplete (S.files shelf.old) (Some (Replay (places_view places.entry) with_bounds)) result }
     ensures due { (Rose (S.faults shelf.old) (S.faults shelf.new) → ⊥) → IsDue (S.files shelf.old) (Some (Replay (places_view places.entry) with_bounds)) result }
 {
-    let net = match read_whole(alloc, shelf, places.net, MOST_BYTES) {
+    let net = match read_whole(alloc, shelf, places.net, MOST_NETWORK) {
         Ok(net) => net,
         Err(Stop::Failed) => return Status::ReadFault,
         Err(Stop::TooLong) => return Status::Limit {
@@ -60,11 +59,10 @@ pub fn run_replay<S: Shelf, K: Sink>(
         Err(GridFault::Refused { line, rule }) => return Status::NetworkRefused { line, rule },
         Err(GridFault::Memory) => return Status::Memory,
     };
-    text_is_in_tree_order();
     text_is_sound();
     diagnosis_of_is_diagnosis();
     least_of_is_least();
-    let events = match read_whole(alloc, shelf, places.events, MOST_BYTES) {
+    let events = match read_whole(alloc, shelf, places.events, MOST_EVENTS) {
         Ok(events) => events,
         Err(Stop::Failed) => return Status::ReadFault,
         Err(Stop::TooLong) => return Status::Limit {

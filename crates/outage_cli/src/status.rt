@@ -2,9 +2,9 @@
 ghost use Rattle.std.specs.Prelude.{◌≡◌};
 ghost use Rattle.outage_cli.specs.Number.{status_number};
 
-use crate::GridRule;
 use bound_checker::CheckRule;
 use bound_table::BoundRule;
+use grid_reader::GridRule;
 use thiserror::Error;
 
 /// The limits that a run can meet.

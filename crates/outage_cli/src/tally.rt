@@ -1,8 +1,6 @@
 //! The calls so far, and the diagnosis that explains them.
 ghost use Rattle.std.specs.Prelude.{◌≡◌, ◌<◌, ℕ, List, [], ◌∷◌, length, map, true, false, IfOk};
-ghost use Rattle.outage_rules.specs.TreeOrder.{IsInTreeOrder};
 ghost use Rattle.grid_model.specs.Parts.{Parts};
-ghost use Rattle.grid_model.specs.Network.{network_of};
 ghost use Rattle.event_rules.specs.Calls.{problem_of, least_of};
 ghost use Rattle.diagnosis.specs.Judgement.{differences};
 ghost use Rattle.bound_table.specs.Sound.{IsTableOf};
@@ -13,7 +11,7 @@ ghost use Rattle.outage_cli.specs.Tallied.{Tallies, IsTally};
 use bound_checker::Verdict;
 use bound_table::Bounds;
 use diagnosis::Judged;
-use grid_model::{Grid, Mark, MeterId, Setting};
+use grid_model::{DeviceId, Grid, Mark, MeterId, Setting};
 use std::alloc::{AllocError, Global};
 
 /// The meters that called, and the diagnosis of their calls.
@@ -25,7 +23,7 @@ pub(crate) struct Tally {
     dark: Vec<u64>,
     /// One sum a node: what the reports that it is live weigh, and there are none.
     live: Vec<u64>,
-    /// One flag a device: whether it is closed, as all are.
+    /// One flag a device: whether it is closed, as in the starting states.
     closed: Vec<bool>,
     /// One mark a device: nothing is known of any.
     marks: Vec<Mark>,
@@ -33,20 +31,30 @@ pub(crate) struct Tally {
     judged: Judged,
 }
 
+// One flag a device: whether it starts closed.
+fn starting_states(alloc: Global, grid: &Grid) -> Result<Vec<bool>, AllocError>
+    ensures { IfOk result (λ closed. closed.items ≡ map (λ d. d.starts_closed) grid.now.devices) }
+{
+    let devices = grid.devices();
+    let mut closed = Vec::with_capacity(alloc, devices as usize)?;
+    for d in 0..devices {
+        closed.push(grid.device(DeviceId(d)).starts_closed)?;
+    }
+    Ok(closed)
+}
+
 impl Tally {
     /// No calls yet.
     pub(crate) fn new(alloc: Global, grid: &Grid) -> Result<Tally, AllocError>
-        requires order { IsInTreeOrder (network_of grid.now) }
         ensures { IfOk result (λ tally. Tallies grid.now [] tally) }
     {
         let nodes = grid.nodes() as usize;
-        let devices = grid.devices() as usize;
         Ok(Tally {
             called: vec![in alloc; false; grid.meters() as usize]?,
             dark: vec![in alloc; 0; nodes]?,
             live: vec![in alloc; 0; nodes]?,
-            closed: vec![in alloc; true; devices]?,
-            marks: vec![in alloc; Mark::Nothing; devices]?,
+            closed: starting_states(alloc, grid)?,
+            marks: vec![in alloc; Mark::Nothing; grid.devices() as usize]?,
             judged: Judged::new(alloc, grid)?,
         })
     }
@@ -68,7 +76,6 @@ impl Tally {
     /// Adds a call, and says whether the network was judged anew: a call of a meter that called
     /// before changes nothing.
     pub(crate) fn call(&mut self, grid: &Grid, meter: MeterId) -> bool
-        requires order { IsInTreeOrder (network_of grid.now) }
         requires known { meter.0 < length grid.now.meters }
         requires tally { IsTally grid.now self.old }
         ensures tally { (calls : List ℕ) → Tallies grid.now calls self.old → Tallies grid.now (meter.0 ∷ calls) self.new }
@@ -94,7 +101,6 @@ impl Tally {
         grid: &Grid,
         bounds: &Bounds,
     ) -> Result<Verdict, AllocError>
-        requires order { IsInTreeOrder (network_of grid.now) }
         requires tally { IsTally grid.now self.now }
         requires of_network { IsTableOf grid.now bounds.now }
         ensures { IfOk result (λ verdict. (calls : List ℕ) → Tallies grid.now calls self.now

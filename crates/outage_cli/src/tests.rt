@@ -1,7 +1,8 @@
 //! Worked runs over files and an output in memory.
-use crate::{GridRule, Status, outage_main};
+use crate::{Status, outage_main};
 use bound_checker::CheckRule;
 use bound_table::BoundRule;
+use grid_reader::GridRule;
 use outage_ports::{MemoryShelf, MemorySink, Mishap};
 use std::alloc::{AllocError, Global};
 use std::process::Abort;
@@ -57,10 +58,6 @@ fn run_case(rt: &impl Abort, alloc: Global, case: &Case) -> Result<(), AllocErro
 #[test]
 fn replays(rt: HostRuntime) -> Result<(), Fail> {
     let alloc = rt.alloc();
-    let refused = Status::NetworkRefused {
-        line: 1,
-        rule: GridRule::NotInOrder,
-    };
     let cases = [
         Case {
             net: NET,
@@ -80,11 +77,52 @@ fn replays(rt: HostRuntime) -> Result<(), Fail> {
             status: Status::Done,
             written: "refused,1,UnknownMeter\ntotal,0\nend\n",
         },
+    ];
+    for case in &cases {
+        run_case(&rt, alloc, case)?;
+    }
+    Ok(())
+}
+
+// The worked network with a tenth line.
+const TIED: &str = "source,S\ndevice,B1,breaker,S,A,closed,-\ndevice,F1,fuse,A,C,closed,-\n\
+device,T1,transformer,A,D,closed,-\ndevice,T2,transformer,A,E,closed,-\n\
+meter,M1,C,10\nmeter,M2,C,20\nmeter,M3,D,5\nmeter,M4,E,5\nset,call,40\n";
+
+const LOOPED: &str = "source,S\ndevice,B1,breaker,S,A,closed,-\ndevice,F1,fuse,A,C,closed,-\n\
+device,T1,transformer,A,D,closed,-\ndevice,T2,transformer,A,E,closed,-\n\
+meter,M1,C,10\nmeter,M2,C,20\nmeter,M3,D,5\nmeter,M4,E,5\ndevice,X1,tie,C,D,closed,-\n";
+
+// A source with a breaker, and two parts that nothing feeds.
+const UNFED: &str = "source,S\ndevice,B1,breaker,S,A,closed,-\ndevice,L1,line,P,Q,closed,-\n\
+device,L2,line,Q,U,closed,-\ndevice,X1,tie,P,U,open,-\ndevice,L3,line,V,W,closed,-\n\
+device,X2,tie,U,V,open,-\nmeter,M1,P,10\nmeter,M2,V,5\n";
+
+#[test]
+fn reads_networks(rt: HostRuntime) -> Result<(), Fail> {
+    let alloc = rt.alloc();
+    let refused = Status::NetworkRefused {
+        line: 10,
+        rule: GridRule::Loop,
+    };
+    let cases = [
         Case {
-            net: "device,B1,breaker,S,A,closed,-\n",
+            net: TIED,
+            events: "2024-03-01T10:00:00Z,call,M1\n",
+            status: Status::Done,
+            written: "cost,1,40\ntotal,40\nend\n",
+        },
+        Case {
+            net: LOOPED,
             events: CALLS,
             status: refused,
             written: "",
+        },
+        Case {
+            net: UNFED,
+            events: CALLS,
+            status: Status::Done,
+            written: "total,0\nend\n",
         },
     ];
     for case in &cases {

@@ -1,7 +1,5 @@
 //! What is written: the output of a replay, and the verdict of a check.
 ghost use Rattle.std.specs.Prelude.{◌≡◌, ◌≤◌, ◌++◌, ◌∷◌, [], ℕ, List, length, codes, IfOk, OnOk};
-ghost use Rattle.grid_model.specs.Network.{network_of};
-ghost use Rattle.outage_rules.specs.TreeOrder.{IsInTreeOrder};
 ghost use Rattle.event_rules.specs.Calls.{problem_of};
 ghost use Rattle.event_rules.specs.Output.{row};
 ghost use Rattle.bound_table.specs.Printed.{bounds_text};
@@ -35,15 +33,14 @@ fn put_bounds_part(
 }
 
 /// All that a replay writes: what it prints, and where they are asked for the bounds that show the
-/// least cost of all calls. The network's devices stand in tree order, and the text has at most
-/// 1,048,576 bytes. An error says that memory ran out.
+/// least cost of all calls. The text of the events has at most 1,048,576 bytes. An error says that
+/// memory ran out.
 pub(crate) fn output_of(
     alloc: Global,
     grid: &Grid,
     events: &[u8],
     with_bounds: bool,
 ) -> Result<Vec<u8>, AllocError>
-    requires order { IsInTreeOrder (network_of grid.now) }
     requires few { length events.now ≤ 1_048_576 }
     ensures { IfOk result (λ text. text.items ≡ output grid.now events.now with_bounds) }
 {
@@ -55,15 +52,14 @@ pub(crate) fn output_of(
     Ok(printed)
 }
 
-/// The verdict of the local check on bounds, by all calls of an event text. The network's devices
-/// stand in tree order, and the text has at most 1,048,576 bytes. An error says that memory ran out.
+/// The verdict of the local check on bounds, by all calls of an event text of at most 1,048,576
+/// bytes. An error says that memory ran out.
 pub(crate) fn verdict_of(
     alloc: Global,
     grid: &Grid,
     events: &[u8],
     bounds: &Bounds,
 ) -> Result<Verdict, AllocError>
-    requires order { IsInTreeOrder (network_of grid.now) }
     requires few { length events.now ≤ 1_048_576 }
     requires of_network { IsTableOf grid.now bounds.now }
     ensures verdict { IfOk result (λ verdict. verdict ≡ verdict_on grid.now events.now bounds.now) }

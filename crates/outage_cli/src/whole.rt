@@ -16,8 +16,11 @@ pub enum Stop {
 
 const PIECE: usize = 4096;
 
-/// The greatest number of bytes of a network or an event file.
-pub const MOST_BYTES: usize = 1_048_576;
+/// The greatest number of bytes of a network.
+pub const MOST_NETWORK: usize = 67_108_864;
+
+/// The greatest number of bytes of the events.
+pub const MOST_EVENTS: usize = 1_048_576;
 
 /// The greatest number of bytes of a report.
 pub const MOST_REPORT: usize = 268_435_456;

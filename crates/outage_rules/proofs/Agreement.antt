@@ -44,7 +44,7 @@ module _ (p : Network) (t : Table) (sound : IsSoundNetwork p) (forest : IsForest
   listed_if_live n v = (and_parts (t.is_listed n) (not (cut_above p t nothing (t.depth n) n)) (lit_from_live p t nothing sound forest n v)).0
 
   -- down to depth b no node hangs from the device
-  abbrev HangsNone : ℕ → ℕ → Type 0
+  abbrev pub HangsNone : ℕ → ℕ → Type 0
   HangsNone e b = (x : ℕ) → x < p.nodes → has_parent p t x ≡ true → t.depth x ≤ b → t.parent x ≢ e
 
   -- so it is above no node down to there
@@ -62,13 +62,13 @@ module _ (p : Network) (t : Table) (sound : IsSoundNetwork p) (forest : IsForest
       (cases_Bool (has_parent p t n))
 
   -- and each listed node down to there is live without it
-  live_without : (e n : ℕ) → HangsNone e (t.depth n) → n < p.nodes → t.is_listed n ≡ true → IsLive p (only e) n
+  pub live_without : (e n : ℕ) → HangsNone e (t.depth n) → n < p.nodes → t.is_listed n ≡ true → IsLive p (only e) n
   live_without e n none l in_table =
       live_from_lit p t (only e) sound forest.rooted n l
       (and_from (t.is_listed n) (not (cut_above p t (only e) (t.depth n) n)) in_table (not_from_false (cut_above p t (only e) (t.depth n) n) (not_above e (t.depth n) none (t.depth n) n l refl (omega arith))))
 
   -- an end of a parent device is the node that hangs from it, or the node above
-  end_is : (n x e : ℕ) → (p.from e ≡ n) ⊎ (p.to e ≡ n) → x < p.nodes → has_parent p t x ≡ true → t.parent x ≡ e → (n ≡ x) ⊎ (n ≡ upper p t x)
+  pub end_is : (n x e : ℕ) → (p.from e ≡ n) ⊎ (p.to e ≡ n) → x < p.nodes → has_parent p t x ≡ true → t.parent x ≡ e → (n ≡ x) ⊎ (n ≡ upper p t x)
   end_is n x e end l hp same =
       ⊎_elim
       (λ a. ⊎_elim

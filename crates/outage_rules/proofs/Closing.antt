@@ -4,8 +4,10 @@ use Rattle.std.specs.Prelude.{◌||◌, ◌⊎◌, ◌==◌}
 use Rattle.std.proofs.lemmas.Bool.{cases_eq, ne_eqb}
 use Rattle.outage_rules.specs.Network.{Network, Cut, Joins, Walk, IsLive, IsRadial, only, nothing}
 use Rattle.outage_rules.specs.Laws.{with_closed}
+use Rattle.outage_rules.specs.Loops.{with_states}
 
-abbrev Path : Network → Cut → ℕ → ℕ → Type 0
+-- a walk of some length
+abbrev pub Path : Network → Cut → ℕ → ℕ → Type 0
 Path g cut a b = (k : ℕ) × Walk g cut k a b
 
 -- the two ends of the device, in one order or the other
@@ -17,16 +19,16 @@ module _ (g : Network) where
   append cut j zero a b c v w = (j, subst (λ x. Walk g cut j a x) w v)
   append cut j (suc k) a b c v w = let r = append cut j k a b w.0 v w.2 in (suc r.0, (w.0, w.1, r.1, w.3))
 
-  then_to : (cut : Cut) (a b c : ℕ) → Path g cut a b → Path g cut b c → Path g cut a c
+  pub then_to : (cut : Cut) (a b c : ℕ) → Path g cut a b → Path g cut b c → Path g cut a c
   then_to cut a b c p q = append cut p.0 q.0 a b c p.1 q.1
 
   turned : (cut : Cut) (d a b : ℕ) → Joins g cut d a b → Joins g cut d b a
   turned cut d a b j = record { within = j.within; closed = j.closed; uncut = j.uncut; ends = ⊎_elim (λ e. inr e) (λ e. inl e) j.ends }
 
-  one : (cut : Cut) (d a b : ℕ) → Joins g cut d a b → Path g cut a b
+  pub one : (cut : Cut) (d a b : ℕ) → Joins g cut d a b → Path g cut a b
   one cut d a b j = (suc zero, (a, d, refl, j))
 
-  back : (cut : Cut) (k a b : ℕ) → Walk g cut k a b → Path g cut b a
+  pub back : (cut : Cut) (k a b : ℕ) → Walk g cut k a b → Path g cut b a
   back cut zero a b w = (0, sym w)
   back cut (suc k) a b w = then_to cut b w.0 a (one cut w.1 b w.0 (turned cut w.1 w.0 b w.3)) (back cut k a w.0 w.2)
 
@@ -34,7 +36,7 @@ module _ (g : Network) where
   uncut e zero a b w = w
   uncut e (suc k) a b w = (w.0, w.1, uncut e k a w.0 w.2, record { within = w.3.within; closed = w.3.closed; uncut = refl; ends = w.3.ends })
 
-  free : (e a b : ℕ) → Path g (only e) a b → Path g nothing a b
+  pub free : (e a b : ℕ) → Path g (only e) a b → Path g nothing a b
   free e a b p = (p.0, uncut e p.0 a b p.1)
 
   module _ (d : ℕ) (radial : IsRadial g) (ld : d < g.devices) (unjoined : (k : ℕ) → Walk g nothing k (g.from d) (g.to d) → ⊥) (unfed : IsLive g nothing (g.from d) → IsLive g nothing (g.to d) → ⊥) where
@@ -146,20 +148,16 @@ pub radial_stays : (g : Network) (d : ℕ) → IsRadial g → d < g.devices →
     ((k : ℕ) → Walk g nothing k (g.from d) (g.to d) → ⊥) → (IsLive g nothing (g.from d) → IsLive g nothing (g.to d) → ⊥) → IsRadial (with_closed g d)
 radial_stays g d radial ld unjoined unfed = radial_stays' g d radial ld unjoined unfed
 
--- the network with these devices closed
-abbrev pub closed_by : Network → (ℕ → Bool) → Network
-closed_by g closed = record g { is_closed = closed }
-
 module _ (g : Network) (c : ℕ → Bool) (less : (d : ℕ) → d < g.devices → c d ≡ true → g.is_closed d ≡ true) where
-  walk_before : (cut : Cut) (k a b : ℕ) → Walk (closed_by g c) cut k a b → Walk g cut k a b
+  walk_before : (cut : Cut) (k a b : ℕ) → Walk (with_states g c) cut k a b → Walk g cut k a b
   walk_before cut zero a b w = w
   walk_before cut (suc k) a b w = (w.0, w.1, walk_before cut k a w.0 w.2, record { within = w.3.within; closed = less w.1 w.3.within w.3.closed; uncut = w.3.uncut; ends = w.3.ends })
 
-  live_before : (cut : Cut) (n : ℕ) → IsLive (closed_by g c) cut n → IsLive g cut n
+  live_before : (cut : Cut) (n : ℕ) → IsLive (with_states g c) cut n → IsLive g cut n
   live_before cut n v = (v.0, v.1, v.2, walk_before cut v.1 v.0 n v.3)
 
   -- with fewer closed devices the network stays radial
-  pub radial_with_fewer : IsRadial g → IsRadial (closed_by g c)
+  pub radial_with_fewer : IsRadial g → IsRadial (with_states g c)
   radial_with_fewer radial d l closed =
       let r = radial d l (less d l closed) in
       (λ k w. r.0 k (walk_before (only d) k (g.from d) (g.to d) w), λ a b. r.1 (live_before (only d) (g.from d) a) (live_before (only d) (g.to d) b))

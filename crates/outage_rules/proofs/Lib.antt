@@ -24,3 +24,7 @@ pub mod SummedRows
 pub mod Least
 pub mod Agreement
 pub mod Tight
+pub mod Listed
+pub mod Roots
+pub mod FirstBelow
+pub mod Loops

@@ -8,3 +8,4 @@ pub mod Laws
 pub mod Reference
 pub mod Agreement
 pub mod TightLaws
+pub mod Loops

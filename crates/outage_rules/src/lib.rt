@@ -4,6 +4,7 @@
 ghost use Rattle.outage_rules.specs.Laws.{CheckIsSound, LiveIsAWalk, OneDiagnosis, RowIsLeast, FlagsAreDiagnosis, RadialIsForest, TestedIsDiagnosis, DiagnosisIsOne, ReferenceIsDiagnosis, RadialStays, TreeIsRadial, LeastCostIsLeast, OneLeastCost, SummedRowsAreLeast, NothingCostsNothing, EqualReportsEqualProblems};
 ghost use Rattle.outage_rules.specs.Agreement.{TablesAgree, ReferenceTableIsExact, ExactTableIsReference};
 ghost use Rattle.outage_rules.specs.TightLaws.{TightPasses, RowsAreBounded, LeastIsBounded, DistanceIsBounded};
+ghost use Rattle.outage_rules.specs.Loops.{LoopIsAWalk, RadialHasNoLoop, RadialBefore, ForestIsRadial, RadialByRoots};
 
 /// A table that passes the local check shows that no feasible cut costs less than its own.
 pub fn check_is_sound()
@@ -118,4 +119,29 @@ pub fn least_is_bounded()
 /// A shortest walk has at most as many devices as there are nodes.
 pub fn distance_is_bounded()
     ensures { DistanceIsBounded }
+{}
+
+/// Closing a device closes a loop exactly where a walk joins its ends, or where both of them are live.
+pub fn loop_is_a_walk()
+    ensures { LoopIsAWalk }
+{}
+
+/// A network is radial exactly where there is no first device that closes a loop.
+pub fn radial_has_no_loop()
+    ensures { RadialHasNoLoop }
+{}
+
+/// The first devices are radial exactly where none of them closes a loop.
+pub fn radial_before()
+    ensures { RadialBefore }
+{}
+
+/// A forest that lists all nodes shows that the network is radial.
+pub fn forest_is_radial()
+    ensures { ForestIsRadial }
+{}
+
+/// Sources that no walk joins to another source may be added: they don't change whether the network is radial.
+pub fn radial_by_roots()
+    ensures { RadialByRoots }
 {}

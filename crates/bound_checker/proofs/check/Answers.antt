@@ -1,5 +1,6 @@
 use Rattle.std.proofs.Common.{◌≡◌, length, ap, ◌∙◌}
-use Rattle.bound_checker.specs.Claimed.{problem_of, table_of, cut_of, table_in, cut_in}
+use Rattle.grid_model.specs.Problem.{problem_of}
+use Rattle.bound_checker.specs.Claimed.{table_of, cut_of, table_in, cut_in}
 use Rattle.bound_checker.proofs.Joined.{same_claims, answer_certifies}
 use Rattle.bound_checker.proofs.check.Goals as goal
 

@@ -1,5 +1,7 @@
-use Rattle.std.proofs.Common.{sym, ◌∙◌}
-use Rattle.bound_checker.specs.Claimed.{network_with, problem_of, table_in, cut_in}
+use Rattle.std.proofs.Common.{sym, ◌∙◌, slice_index_or, false}
+use Rattle.grid_model.specs.Network.{network_in}
+use Rattle.grid_model.specs.Problem.{problem_of}
+use Rattle.bound_checker.specs.Claimed.{table_in, cut_in}
 use Rattle.bound_checker.proofs.Passed.{forest_holds, all_hang}
 use Rattle.bound_checker.proofs.Joined.{by_cut, by_forest, by_rows, costs_answer}
 use Rattle.bound_checker.proofs.verdict.Goals as goal
@@ -18,7 +20,7 @@ returns-then-is_invalid-2 c =
 
 pub verdict-requires-2-clause-parents : goal.verdict-requires-2-clause-parents
 verdict-requires-2-clause-parents c =
-    let g = network_with c.args.grid.now c.args.closed.now in
+    let g = network_in c.args.grid.now (λ d. slice_index_or c.args.closed.now d false) in
     let t = table_in c.args.claims.now in
     all_hang c.args.grid.now c.args.closed.now t (forest_holds g t (sym c.in_ok-by_forest.ensures ∙ c.is_invalid-2.ensures.valid c.if-is_invalid-2.false)).1
 
@@ -32,7 +34,7 @@ returns-then-is_invalid-3 c =
 
 pub verdict-requires-3-clause-parents : goal.verdict-requires-3-clause-parents
 verdict-requires-3-clause-parents c =
-    let g = network_with c.args.grid.now c.args.closed.now in
+    let g = network_in c.args.grid.now (λ d. slice_index_or c.args.closed.now d false) in
     let t = table_in c.args.claims.now in
     all_hang c.args.grid.now c.args.closed.now t (forest_holds g t (sym c.in_ok-by_forest.ensures ∙ c.is_invalid-2.ensures.valid c.if-is_invalid-2.false)).1
 

@@ -2,7 +2,8 @@ use Rattle.std.proofs.Common.{◌≡◌, ◌<◌, ◌≤◌, ◌*◌, ◌^◌, �
 use Rattle.outage_rules.specs.Sum.{total}
 use Rattle.outage_rules.specs.Certificate.{is_child, choice}
 use Rattle.grid_model.specs.Network.{network_of}
-use Rattle.bound_checker.specs.Claimed.{problem_of, table_in}
+use Rattle.grid_model.specs.Problem.{problem_of}
+use Rattle.bound_checker.specs.Claimed.{table_in}
 use Rattle.bound_checker.proofs.children.add_choices.Given as goal
 
 abbrev pub invariant-loop-m : goal.invariant-loop-m

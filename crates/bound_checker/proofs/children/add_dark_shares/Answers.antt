@@ -1,7 +1,8 @@
 use Rattle.std.proofs.Common.{[], arith}
 use Rattle.outage_rules.specs.Certificate.{dark_share}
 use Rattle.grid_model.specs.Network.{network_of}
-use Rattle.bound_checker.specs.Claimed.{problem_of, table_in}
+use Rattle.grid_model.specs.Problem.{problem_of}
+use Rattle.bound_checker.specs.Claimed.{table_in}
 use Rattle.bound_checker.proofs.Added.{add_child}
 use Rattle.bound_checker.proofs.children.add_dark_shares.Goals as goal
 

@@ -1,7 +1,8 @@
 use Rattle.std.proofs.Common.{◌≡◌, ◌≤◌, ◌*◌, ◌^◌, [], cond}
 use Rattle.std.specs.Prelude.{◌&&◌, not}
 use Rattle.outage_rules.specs.Sum.{total}
-use Rattle.bound_checker.specs.Claimed.{problem_of, table_in}
+use Rattle.grid_model.specs.Problem.{problem_of}
+use Rattle.bound_checker.specs.Claimed.{table_in}
 use Rattle.bound_checker.proofs.costs.apart_weights.Given as goal
 
 abbrev pub invariant-loop-d : goal.invariant-loop-d

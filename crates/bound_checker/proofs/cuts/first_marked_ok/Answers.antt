@@ -1,6 +1,7 @@
 use Rattle.std.proofs.Common.{◌≡◌, true, [], length, sym, arith}
 use Rattle.std.proofs.lemmas.Grind.{common_steps}
-use Rattle.bound_checker.specs.Claimed.{problem_of, cut_in}
+use Rattle.grid_model.specs.Problem.{problem_of}
+use Rattle.bound_checker.specs.Claimed.{cut_in}
 use Rattle.bound_checker.specs.Conditions.{is_cut_though_ok}
 use Rattle.bound_checker.proofs.FirstBelow.{first_at, none_below}
 use Rattle.bound_checker.proofs.cuts.first_marked_ok.Goals as goal

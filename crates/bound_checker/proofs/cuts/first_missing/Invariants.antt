@@ -1,5 +1,6 @@
 use Rattle.std.proofs.Common.{◌≡◌, ℕ, ◌<◌, false, []}
-use Rattle.bound_checker.specs.Claimed.{problem_of, cut_in}
+use Rattle.grid_model.specs.Problem.{problem_of}
+use Rattle.bound_checker.specs.Claimed.{cut_in}
 use Rattle.bound_checker.specs.Conditions.{is_missing}
 use Rattle.bound_checker.proofs.cuts.first_missing.Given as goal
 

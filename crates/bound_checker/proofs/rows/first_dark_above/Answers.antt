@@ -1,6 +1,7 @@
 use Rattle.std.proofs.Common.{◌≡◌, true, [], length, sym, arith}
 use Rattle.std.proofs.lemmas.Grind.{common_steps}
-use Rattle.bound_checker.specs.Claimed.{problem_of, table_in}
+use Rattle.grid_model.specs.Problem.{problem_of}
+use Rattle.bound_checker.specs.Claimed.{table_in}
 use Rattle.bound_checker.specs.Conditions.{is_dark_above}
 use Rattle.bound_checker.proofs.FirstBelow.{first_at, none_below}
 use Rattle.bound_checker.proofs.rows.first_dark_above.Goals as goal

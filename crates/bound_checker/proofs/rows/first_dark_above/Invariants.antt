@@ -1,5 +1,6 @@
 use Rattle.std.proofs.Common.{◌≡◌, ℕ, ◌<◌, false, []}
-use Rattle.bound_checker.specs.Claimed.{problem_of, table_in}
+use Rattle.grid_model.specs.Problem.{problem_of}
+use Rattle.bound_checker.specs.Claimed.{table_in}
 use Rattle.bound_checker.specs.Conditions.{is_dark_above}
 use Rattle.bound_checker.proofs.rows.first_dark_above.Given as goal
 

@@ -1,12 +1,11 @@
-use Rattle.std.proofs.Common.{rules, ◌≡◌, ◌≤◌, sym, ◌∙◌, subst, length}
+use Rattle.std.proofs.Common.{rules, ◌≡◌}
 use Rattle.outage_ports.specs.Bytes.{AppendsPrefix}
 use Rattle.std.specs.Io.KnownBytes.{Appends}
-use Rattle.bound_checker.specs.declared.rules.Verdict.{Verdict}
 use Rattle.bound_checker.specs.declared.rules.Verdict.TheVariants as verdict
-use Rattle.bound_table.specs.Report.{report_reading, IsRead, IsRefused}
+use Rattle.bound_table.specs.Report.{report_reading, IsRefused}
 use Rattle.outage_cli.specs.Places.{places_view}
 use Rattle.outage_cli.specs.Told.{verdict_on, verdict_text}
-use Rattle.outage_cli.proofs.RunEnds.{ReadsTwo, ReadsThree, report_cause, report_refused, check_invalid, check_part, check_due, appends_verdict, prefix_verdict}
+use Rattle.outage_cli.proofs.RunEnds.{report_refused, check_invalid, check_part, check_due, appends_verdict, prefix_verdict}
 use Rattle.outage_cli.proofs.check_run.run_check.Goals as goal
 
 pub returns-in-Err-Refused-read_bounds-clause-report : goal.returns-in-Err-Refused-read_bounds-clause-report

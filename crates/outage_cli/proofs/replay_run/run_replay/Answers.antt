@@ -1,14 +1,13 @@
-use Rattle.std.proofs.Common.{rules, ◌≤◌, length}
+use Rattle.std.proofs.Common.{rules}
 use Rattle.outage_ports.specs.Bytes.{AppendsPrefix}
 use Rattle.outage_cli.specs.Places.{places_view}
 use Rattle.outage_cli.specs.Told.{output}
-use Rattle.outage_cli.proofs.RunEnds.{ReadsTwo, replay_done, replay_part}
+use Rattle.outage_cli.proofs.RunEnds.{replay_done, replay_part}
 use Rattle.outage_cli.proofs.replay_run.run_replay.Goals as goal
 
 pub returns-in-Ok-put_all-clause-done : goal.returns-in-Ok-put_all-clause-done
 returns-in-Ok-put_all-clause-done g c =
-    let fits : length c.in-Ok.net.items ≤ 1048576 = search rules in
-    let sound = c.text_is_sound.ensures c.in-Ok.net.items c.in-Ok-read_grid.grid fits (search rules) in
+    let sound = c.text_is_sound.ensures c.in-Ok.net.items c.in-Ok-read_grid.grid (search rules) in
     λ _.
     replay_done
     (g.S.Shelf.files c.args.shelf.now)
@@ -25,7 +24,7 @@ returns-in-Ok-put_all-clause-done g c =
     (record {
       same_files = c.in-Ok.ensures.files;
       net_whole = c.in-Ok.ensures.whole;
-      net_fits = fits;
+      net_fits = search rules;
       grid = search rules;
       events_whole = c.in-Ok-read_whole.ensures.whole;
       events_fit = search rules;

@@ -1,4 +1,4 @@
-use Rattle.std.proofs.Common.{rules, ◌≡◌, ◌∙◌, sym, string_bytes, length}
+use Rattle.std.proofs.Common.{rules, ◌≡◌, sym, string_bytes, length}
 use Rattle.std.specs.Global.{Global}
 use Rattle.outage_cli.proofs.WordLists.{of_four, of_five}
 use Rattle.outage_cli.proofs.words.read_words.Goals as goal

@@ -1,5 +1,6 @@
-use Rattle.std.proofs.Common.{◌≤◌, arith, refl, sym, ap, ◌∙◌, subst, true, false, sum}
-use Rattle.diagnosis.specs.Problem.{problem_of}
+use Rattle.std.proofs.Common.{◌≤◌, arith, get_or, false, refl, sym, ap, ◌∙◌, subst, true, false, sum}
+use Rattle.grid_model.specs.Problem.{problem_of}
+use Rattle.outage_cli.proofs.Diagnosed.{starts_radial, none_marked}
 use Rattle.outage_cli.proofs.TallyLaws.{Judges, flag_read, place_within, weight_fits, tallies_again, judged_is_sized, weights_small, written, tallies_more}
 use Rattle.outage_cli.proofs.tally.Tally.call.Goals as goal
 
@@ -30,6 +31,19 @@ recompute-requires-clause-dark_bound c =
     subst (λ xs. sum xs ≤ 1000000000000) (sym (c.deref-3.ensures.value ∙ weights))
     (weights_small c.args.grid.now c.requires.tally.0 c.args.meter.0 c.args.self.now c.requires.known t flag)
 
+pub recompute-requires-clause-own : goal.recompute-requires-clause-own
+recompute-requires-clause-own c = let t = c.requires.tally.1 in t.own
+
+pub recompute-requires-clause-radial : goal.recompute-requires-clause-radial
+recompute-requires-clause-radial c =
+    let t = c.requires.tally.1 in
+    starts_radial c.args.grid.now t.sound c.deref.result.now (c.deref.ensures.value ∙ t.closed)
+
+pub recompute-requires-clause-marked : goal.recompute-requires-clause-marked
+recompute-requires-clause-marked c =
+    let t = c.requires.tally.1 in
+    none_marked c.args.grid.now c.deref-2.result.now (c.deref-2.ensures.value ∙ t.marks) (λ d. get_or c.deref.result.now d false)
+
 pub returns-clause-tally : goal.returns-clause-tally
 returns-clause-tally c = λ calls t.
     let g = c.args.grid.now in
@@ -46,5 +60,5 @@ returns-clause-tally c = λ calls t.
     ∙ ap (λ xs. problem_of g c.args.self.now.closed.items xs c.deref-3.result.now c.deref-4.result.now) c.deref-2.ensures.value
     ∙ ap (λ xs. problem_of g c.args.self.now.closed.items c.args.self.now.marks.items xs c.deref-4.result.now) c.deref-3.ensures.value
     ∙ ap (problem_of g c.args.self.now.closed.items c.args.self.now.marks.items _) c.deref-4.ensures.value in
-    tallies_more g calls c.args.meter.0 c.args.self.now c.requires.known t flag c.requires.order _ refl weights refl refl refl
-    (subst (λ p. Judges p c.recompute.new.self) poses judges)
+    tallies_more g calls c.args.meter.0 c.args.self.now c.requires.known t flag _ refl weights refl refl refl
+    (subst (λ p. Judges p c.recompute.new.self) poses judges) c.recompute.ensures.own

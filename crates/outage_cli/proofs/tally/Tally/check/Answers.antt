@@ -23,6 +23,6 @@ returns c =
     let b = c.args.bounds.now in
     IfOk-weaker c.check.result _ _
     (λ v is calls t. is ∙ ap (λ p. verdict_of p (table_of (length g.devices) b.rows) (cut_of b.cuts) b.cost)
-    (tally_poses g calls c.args.self.now t c.requires.order c.deref.result.now c.deref-2.result.now c.deref-3.result.now c.deref-4.result.now
+    (tally_poses g calls c.args.self.now t c.deref.result.now c.deref-2.result.now c.deref-3.result.now c.deref-4.result.now
     c.deref.ensures.value c.deref-2.ensures.value c.deref-3.ensures.value c.deref-4.ensures.value))
     c.check.ensures.verdict

@@ -1,0 +1,13 @@
+mod FieldPlaces
+mod RowSteps
+mod Legal
+mod Numbers
+mod Opened
+mod AlmostSound
+mod SoundRows
+mod TextSound
+mod Mentions
+mod DraftRows
+mod GridSteps
+mod Starting
+mod ReadTexts

@@ -1,0 +1,13 @@
+pub mod Words
+pub mod Shapes
+pub mod Rows
+pub mod Network
+pub mod Text
+pub mod Laws
+pub mod ShapeView
+pub mod RowResult
+pub mod RowFaults
+pub mod Opened
+pub mod Draft
+pub mod Reader
+pub mod Start

@@ -1,0 +1,18 @@
+-- Laws of lines and decimals.
+use Rattle.std.specs.Prelude.{◌≡◌, ℕ, ◌^◌, ◌<◌, ◌≤◌, ◌==◌, false, List, ◌++◌, Some, decimal}
+use Rattle.std.specs.List.{list_any}
+use Rattle.event_rules.specs.Lines.{lines}
+use Rattle.event_rules.specs.Decimals.{decimal_within}
+use Rattle.line_text.specs.Cutting.{lines_from}
+
+-- a text is cut byte by byte into its lines, also from the middle of a line on
+abbrev pub LinesFromParts : Type 0
+LinesFromParts = (part rest : List ℕ) → list_any (λ b. b == 10) part ≡ false → lines_from part rest ≡ lines (part ++ rest)
+
+-- a number is read as it was printed
+abbrev pub DecimalIsRead : Type 0
+DecimalIsRead = (n most : ℕ) → n ≤ most → most < 2 ^ 64 → decimal_within 0 most (decimal n) ≡ Some n
+
+-- a text that is read as a number is what is printed of it, so that each number has one spelling
+abbrev pub DecimalHasOneSpelling : Type 0
+DecimalHasOneSpelling = (text : List ℕ) (n most : ℕ) → most < 2 ^ 64 → decimal_within 0 most text ≡ Some n → text ≡ decimal n

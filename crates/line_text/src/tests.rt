@@ -1,0 +1,215 @@
+//! Texts that are cut, lines with their fields, and numbers.
+ghost use Rattle.std.specs.Prelude.{◌≡◌, ◌≢◌, ◌↔◌, ◌++◌, ◌∷◌, [], List, ℕ, OnOk, IfOk, IsNone, IfSome, codes, flat_map, length, nat_le, if◌then◌else◌};
+ghost use Rattle.event_rules.specs.Lines.{lines, most_line};
+ghost use Rattle.line_text.specs.Cutting.{Tells};
+
+use crate::{
+    Cut, Fields, FieldsFault, LineCutter, MOST_LINE, RowFields, cut_at, fields, is_skipped_line,
+    lines_from_parts, next_line, put_decimal, read_decimal,
+};
+use std::alloc::{AllocError, Global};
+use std::process::Abort;
+
+// Appends the line of an answer and an LF; `!` stands for one that is too long.
+fn put_line(text: &mut Vec<u8>, cutter: &LineCutter, cut: Cut) -> Result<(), AllocError>
+    requires { cutter.now.last ≡ cut }
+    ensures { OnOk result ((ended : List (List ℕ)) → Tells cut cutter.now.line ended → text.new.items ≡ text.old.items ++ flat_map (λ line. (if nat_le (length line) most_line then line else 33 ∷ []) ++ 10 ∷ []) ended) }
+{
+    match cut {
+        Cut::More => return Ok(()),
+        Cut::Line => text.extend_from_slice(cutter.line())?,
+        Cut::TooLong => text.push(b'!')?,
+    }
+    text.push(b'\n')?;
+    Ok(())
+}
+
+// The lines of a text, each with an LF behind it; `!` stands for one that is too long.
+fn relined(alloc: Global, text: &[u8]) -> Result<Vec<u8>, AllocError>
+    ensures { IfOk result (λ relined. relined.items ≡ flat_map (λ line. (if nat_le (length line) most_line then line else 33 ∷ []) ++ 10 ∷ []) (lines text.now)) }
+{
+    lines_from_parts();
+    let mut cutter = LineCutter::new();
+    let mut relined = Vec::new(alloc);
+    for byte in text {
+        let cut = cutter.push(*byte);
+        put_line(&mut relined, &cutter, cut)?;
+    }
+    let cut = cutter.end();
+    put_line(&mut relined, &cutter, cut)?;
+    Ok(relined)
+}
+
+#[test]
+fn cuts_a_text_into_lines(rt: HostRuntime) -> Result<(), AllocError> {
+    for (text, lines) in [
+        ("", ""),
+        ("\n", "\n"),
+        ("\n\n", "\n\n"),
+        ("a", "a\n"),
+        ("a\nb\n", "a\nb\n"),
+        ("a\r\n\r\nb", "a\n\nb\n"),
+        ("a\r\r\n", "a\r\n"),
+        ("a\rb\n", "a\rb\n"),
+        ("a\r", "a\r\n"),
+        ("\r", "\r\n"),
+    ] {
+        let cut = relined(rt.alloc(), text.as_bytes())?;
+        assert!(rt; cut.as_slice() == lines.as_bytes(), "{text:?}");
+    }
+    Ok(())
+}
+
+// The last answer to a text of so many letters and this end.
+fn last_answer(letters: usize, end: &str) -> Cut {
+    let mut cutter = LineCutter::new();
+    let mut last = Cut::More;
+    for _ in 0..letters {
+        last = cutter.push(b'x');
+    }
+    for byte in end.as_bytes() {
+        last = cutter.push(*byte);
+    }
+    if last == Cut::More {
+        last = cutter.end();
+    }
+    last
+}
+
+#[test]
+fn tells_lines_that_are_too_long(rt: HostRuntime) {
+    for (letters, end, answer) in [
+        (MOST_LINE, "", Cut::Line),
+        (MOST_LINE, "\n", Cut::Line),
+        (MOST_LINE, "\r\n", Cut::Line),
+        (MOST_LINE - 1, "\r\r\n", Cut::Line),
+        (MOST_LINE - 1, "\r", Cut::Line),
+        (MOST_LINE, "\r", Cut::TooLong),
+        (MOST_LINE, "\r\r\n", Cut::TooLong),
+        (MOST_LINE + 1, "", Cut::TooLong),
+        (MOST_LINE + 1, "\n", Cut::TooLong),
+        (MOST_LINE + 1, "\r\n", Cut::TooLong),
+        (3 * MOST_LINE, "\r\n", Cut::TooLong),
+        (3 * MOST_LINE, "\na", Cut::Line),
+        (0, "", Cut::More),
+    ] {
+        let last = last_answer(letters, end);
+        assert!(rt; last == answer, "{letters} letters and {end:?}");
+    }
+}
+
+#[test]
+fn begins_a_new_text_behind_an_end(rt: HostRuntime) {
+    let mut cutter = LineCutter::new();
+    assert!(rt; cutter.push(b'a') == Cut::More);
+    let cut = cutter.end();
+    assert!(rt; cut == Cut::Line);
+    assert!(rt; cutter.line() == b"a".as_slice());
+    assert!(rt; cutter.end() == Cut::More);
+    assert!(rt; cutter.push(b'b') == Cut::More);
+    let cut = cutter.push(b'\n');
+    assert!(rt; cut == Cut::Line);
+    assert!(rt; cutter.line() == b"b".as_slice());
+}
+
+// The name in a row of the form name,NAME.
+fn name_in(mut fields: RowFields<'_>) -> Option<&[u8]>
+    ensures none { IsNone result ↔ ((name : List ℕ) → fields.entry ≢ (codes "name" ∷ name ∷ [])) }
+    ensures name { IfSome result (λ name. fields.entry ≡ codes "name" ∷ name.now ∷ []) }
+{
+    let word = fields.next()?;
+    let name = fields.next()?;
+    if word != b"name".as_slice() || !fields.is_at_end() {
+        return None;
+    }
+    Some(name)
+}
+
+#[test]
+fn reads_the_name_in_a_row(rt: HostRuntime) -> Result<(), FieldsFault> {
+    let row = fields(rt.alloc(), b"name,F1")?;
+    let name = name_in(RowFields::of(&row));
+    assert!(rt; name == Some(b"F1".as_slice()));
+    let row = fields(rt.alloc(), b"name,F1,")?;
+    assert!(rt; name_in(RowFields::of(&row)).is_none());
+    Ok(())
+}
+
+#[test]
+fn reads_the_fields_of_a_line(rt: HostRuntime) -> Result<(), FieldsFault> {
+    let row = fields(rt.alloc(), b"a,,bc, d")?;
+    assert!(rt; row.len() == 4);
+    assert!(rt; row.get(0) == Some(b"a".as_slice()));
+    assert!(rt; row.get(1) == Some(b"".as_slice()));
+    assert!(rt; row.get(2) == Some(b"bc".as_slice()));
+    assert!(rt; row.get(3) == Some(b" d".as_slice()));
+    let row = fields(rt.alloc(), b"#")?;
+    assert!(rt; row.len() == 1);
+    Ok(())
+}
+
+#[test]
+fn finds_no_fields_in_a_bad_line(rt: HostRuntime) {
+    for line in ["", "\u{feff}a,b", "a,\"b\"", "a,b\r", "a\n,b"] {
+        let fault = fields(rt.alloc(), line.as_bytes()).err();
+        assert!(rt; fault == Some(FieldsFault::Bad), "{line:?}");
+    }
+}
+
+#[test]
+fn reads_each_number_in_one_spelling(rt: HostRuntime) {
+    for (text, most, number) in [
+        ("0", 0, Some(0)),
+        ("70", 70, Some(70)),
+        ("71", 70, None),
+        ("18446744073709551615", u64::MAX, Some(u64::MAX)),
+        ("18446744073709551616", u64::MAX, None),
+        ("", 9, None),
+        ("07", 9, None),
+        ("00", 9, None),
+        ("+7", 9, None),
+        ("7 ", 9, None),
+    ] {
+        assert!(rt; read_decimal(text.as_bytes(), most) == number, "{text:?}");
+    }
+}
+
+#[test]
+fn prints_a_number(rt: HostRuntime) -> Result<(), AllocError> {
+    let mut text = vec![in rt.alloc(); b'=']?;
+    put_decimal(&mut text, 1_000_000_007)?;
+    assert!(rt; text.as_slice() == b"=1000000007".as_slice());
+    Ok(())
+}
+
+#[test]
+fn cuts_off_the_first_line(rt: HostRuntime) {
+    let (line, behind) = next_line(b"a,b\r\nc").expect(&rt, "a line");
+    assert!(rt; line == b"a,b".as_slice());
+    assert!(rt; behind == b"c".as_slice());
+    assert!(rt; next_line(b"").is_none());
+}
+
+#[test]
+fn takes_fields_off_a_line(rt: HostRuntime) {
+    let (front, behind) = cut_at(b"a,b", b',').expect(&rt, "a comma");
+    assert!(rt; front == b"a".as_slice());
+    let mut fields = Fields::of(behind);
+    assert!(rt; !fields.is_at_end());
+    assert!(rt; fields.next() == Some(b"b".as_slice()));
+    assert!(rt; fields.is_at_end());
+}
+
+#[test]
+fn skips_comments(rt: HostRuntime) {
+    let comment = [b'#'; 513];
+    for (line, skipped) in [
+        (b"".as_slice(), true),
+        (b"# a", true),
+        (b" # a", false),
+        (&comment[..MOST_LINE], true),
+        (&comment, false),
+    ] {
+        assert!(rt; is_skipped_line(line) == skipped);
+    }
+}

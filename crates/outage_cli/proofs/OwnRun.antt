@@ -1,0 +1,38 @@
+-- A check of a replay's own report says that it is valid.
+use Rattle.std.proofs.Common.{◌≡◌, ℕ, List, Option, None, Some, inl, inr, ⊎_elim}
+use Rattle.bound_table.specs.Tight.{tight_bounds}
+use Rattle.bound_checker.specs.declared.rules.Verdict.TheVariants.{Valid}
+use Rattle.outage_ports.specs.Bytes.{Files}
+use Rattle.outage_cli.specs.Form.{Places, Command, Replay, Check}
+use Rattle.outage_cli.specs.Told.{last_problem}
+use Rattle.outage_cli.specs.Run.{CanCheck, IsDone, IsComplete}
+use Rattle.outage_cli.specs.RoundTrip.{ReplayIsValid, HasOwnReport, IsOwnConfirmed}
+use Rattle.outage_cli.specs.declared.status.Status.{Status}
+use Rattle.outage_cli.specs.declared.status.Status.TheVariants.{Done}
+
+-- such a report can be checked, and its bounds are valid
+own_check : (files : Files) (places : Places) (report : List ℕ) → ReplayIsValid → HasOwnReport files places report → CanCheck files places report Valid
+own_check files places report law own =
+    let can = own.can in
+    let found = law can.network.bytes can.events can.parts can.network.grid in
+    record {
+      parts = can.parts;
+      events = can.events;
+      bounds = tight_bounds (last_problem can.parts can.events);
+      network = can.network;
+      event_file = can.event_file;
+      report_file = record { bytes = _; file = own.report_file; reading = found.read };
+      verdict_is = found.verdict;
+    }
+
+-- so a run that is complete, and did what it should where it is done, confirms it
+pub own_confirmed : (files : Option Files) (left before now : Option (List ℕ)) (command : Option Command) (status : Status) → ReplayIsValid →
+    IsComplete files command status → (status ≡ Done → IsDone files left before now command) → IsOwnConfirmed files before now command status
+own_confirmed None left before now command status law complete done = tt
+own_confirmed (Some files) left before now None status law complete done = tt
+own_confirmed (Some files) left before now (Some (Replay places with_bounds)) status law complete done = tt
+own_confirmed (Some files) left before now (Some (Check places report)) status law complete done = λ own.
+    ⊎_elim
+    (λ e. inl (record { done = e; written = (done e).written }))
+    (λ e. inr e)
+    (complete Valid (own_check files places report law own))

@@ -1,8 +1,0 @@
-use Rattle.std.proofs.Common.{◌∙◌}
-use Rattle.outage_cli.proofs.DraftNames.{take-next}
-use Rattle.outage_cli.proofs.draft.names_in_order.Goals as goal
-
-pub loop-number-preserved : goal.loop-number-preserved
-loop-number-preserved c =
-    c.in_ok-push.ensures.items
-    ∙ take-next c.args.names.now c.loop-number.all.items c.loop-number.number c.name.result c.loop-number.invariant c.name.ensures

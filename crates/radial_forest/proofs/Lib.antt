@@ -1,0 +1,10 @@
+pub mod Reaching
+pub mod Hanging
+pub mod Incident
+pub mod Around
+pub mod Sources
+pub mod Ending
+pub mod Settled
+pub mod ByParents
+pub mod Halving
+pub mod SmallNetwork

@@ -1,0 +1,3 @@
+pub mod Traversed
+pub mod Spreading
+pub mod TraversedInside

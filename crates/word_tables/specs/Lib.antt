@@ -1,0 +1,4 @@
+pub mod Tables
+pub mod TableInside
+pub mod Words
+pub mod Laws
