@@ -1,6 +1,7 @@
 -- The networks of the tests are sound.
-use Rattle.std.proofs.Common.{◌≡◌, ◌≢◌, ℕ, ◌<◌, ◌≤◌, Bool, true, false, refl, sym, ap, ◌∙◌, arith, List, [], ◌∷◌, length, get_or, map, None}
-use Rattle.std.specs.Prelude.{◌==◌, ◌&&◌, not, nat_le, nat_lt, AllPairs, codes}
+use Rattle.std.proofs.Common.{◌≡◌, ◌≢◌, ℕ, ◌<◌, ◌≤◌, Bool, true, false, refl, sym, ap, ◌∙◌, subst, arith, List, [], ◌∷◌, length, get_or, map, None}
+use Rattle.std.specs.Prelude.{◌==◌, ◌&&◌, not, nat_le, nat_lt, AllPairs, codes, Result, Ok, Err, IfOk}
+use Rattle.std.specs.declared.alloc.AllocError.{AllocError}
 use Rattle.std.specs.List.{list_all}
 use Rattle.std.proofs.lemmas.Bool.{and_parts, eqb-true, eqb-false, ltb-true, leb-true, not-true}
 use Rattle.std.proofs.lemmas.List.{get_or-take}
@@ -8,7 +9,7 @@ use Rattle.std.proofs.lemmas.List.Elements.{All-nil}
 use Rattle.std.proofs.lemmas.List.Kept.{AllPairs-cons}
 use Rattle.std.proofs.lemmas.List.Folds.{Any-from_list_any}
 use Rattle.std.proofs.lemmas.List.Sums.{AllPass-from_list_all}
-use Rattle.outage_rules.specs.Network.{IsSoundNetwork}
+use Rattle.outage_rules.specs.Network.{IsSoundNetwork, IsRadial}
 use Rattle.outage_rules.specs.Loops.{first_loop}
 use Rattle.outage_rules.proofs.Loops.{no_first_loop}
 use Rattle.grid_model.specs.declared.parts.NodeId.{NodeId}
@@ -20,8 +21,9 @@ use Rattle.grid_model.specs.Name.{is_name}
 use Rattle.grid_model.specs.Names.{name_eq, AreDistinct}
 use Rattle.grid_model.specs.Parts.{Parts}
 use Rattle.grid_model.specs.Places.{no_device}
-use Rattle.grid_model.specs.Network.{network_of}
+use Rattle.grid_model.specs.Network.{network_in, network_of}
 use Rattle.grid_model.specs.Sound.{IsSoundParts}
+use Rattle.diagnosis.proofs.Passing.{sound_network_in}
 
 abbrev pub device_of : List ℕ → Kind → ℕ → ℕ → ℕ → Bool → Device
 device_of name kind from to weight closed = record { name = name; kind = kind; from = record { 0 = from }; to = record { 0 = to }; weight = weight; starts_closed = closed }
@@ -191,3 +193,22 @@ tied_passes = record { node_names = refl; device_names = refl; sources_apart = r
 pub tied_is_sound : (nodes : List (List ℕ)) (sources : List NodeId) (devices : List Device) (meters : List Meter)
     → nodes ≡ tied_nodes → sources ≡ tied_sources → devices ≡ tied_devices → meters ≡ [] → IsSoundParts (parts_with nodes sources devices meters)
 tied_is_sound nodes sources devices meters a b c d = rw (a, b, c, d) (passing tied_nodes tied_sources tied_devices tied_passes)
+
+-- with the switch closed they close no loop either
+abbrev switched : List Bool
+switched = true ∷ true ∷ true ∷ false ∷ true ∷ true ∷ []
+
+switched_is_radial : IsRadial (network_in (parts_with tied_nodes tied_sources tied_devices []) (λ d. get_or switched d false))
+unfolding first_loop
+switched_is_radial =
+    (no_first_loop (network_in (parts_with tied_nodes tied_sources tied_devices []) (λ d. get_or switched d false))
+    (sound_network_in (parts_with tied_nodes tied_sources tied_devices []) (λ d. get_or switched d false) (passing tied_nodes tied_sources tied_devices tied_passes))).0 refl
+
+pub tied_switched : (r : Result Parts AllocError) (nodes : List (List ℕ)) (sources : List NodeId) (devices : List Device) (meters : List Meter)
+    → nodes ≡ tied_nodes → sources ≡ tied_sources → devices ≡ tied_devices → meters ≡ [] → IfOk r (λ g. g ≡ parts_with nodes sources devices meters)
+    → IfOk r (λ g. IsRadial (network_in g (λ d. get_or (true ∷ true ∷ true ∷ false ∷ true ∷ true ∷ []) d false)))
+tied_switched (Ok g) nodes sources devices meters a b c d is =
+    subst (λ x. IsRadial (network_in x (λ d. get_or switched d false))) (sym (is
+    ∙ ap (λ x. parts_with x sources devices meters) a ∙ ap (λ x. parts_with tied_nodes x devices meters) b
+    ∙ ap (λ x. parts_with tied_nodes tied_sources x meters) c ∙ ap (λ x. parts_with tied_nodes tied_sources tied_devices x) d)) switched_is_radial
+tied_switched (Err e) nodes sources devices meters a b c d is = tt

@@ -129,7 +129,7 @@ impl Judged {
         ensures changed { map (λ d. d.0) self.new.changed ≡ differences self.old.opened self.new.opened }
     {
         let nodes = grid.nodes() as usize;
-        prove!(dark.len() == nodes);
+        prove!(self.dark.len() == nodes);
         self.opened_before.copy_from_slice(&self.opened);
         self.dark_before.copy_from_slice(&self.dark);
         follow(&mut self.traversal, &mut self.closed, grid, closed);

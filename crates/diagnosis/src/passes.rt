@@ -156,10 +156,11 @@ impl Posed<'_> {
         requires device { d.0 < length self.now.grid.now.devices }
         ensures { result ≡ is_apart self.now d.0 }
     {
+        if !says_opened(self.marks[d.0 as usize]) {
+            return false;
+        }
         let device = self.grid.device(d);
-        says_opened(self.marks[d.0 as usize])
-            && !self.is_fed(device.from)
-            && !self.is_fed(device.to)
+        !self.is_fed(device.from) && !self.is_fed(device.to)
     }
 
     // What such devices weigh.

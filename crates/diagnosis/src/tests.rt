@@ -1,5 +1,7 @@
 //! The least cost and the judgement of small networks.
-ghost use Rattle.std.specs.Prelude.{◌≡◌, ◌≤◌, ℕ, true, IfOk, length, sum};
+ghost use Rattle.std.specs.Prelude.{◌≡◌, ◌≤◌, ℕ, true, false, [], ◌∷◌, IfOk, length, sum, slice_index_or};
+ghost use Rattle.outage_rules.specs.Network.{IsRadial};
+ghost use Rattle.grid_model.specs.Network.{network_in};
 ghost use Rattle.grid_model.specs.Places.{device_at};
 ghost use Rattle.grid_model.specs.Problem.{says_opened, mark_at};
 ghost use Rattle.diagnosis.specs.Judgement.{IsSized, IsOfNetwork};
@@ -70,6 +72,7 @@ fn tied(rt: &impl Abort, alloc: Global) -> Result<Grid, AllocError>
     ensures nodes { IfOk result (λ grid. length grid.nodes ≡ 7) }
     ensures devices { IfOk result (λ grid. length grid.devices ≡ 6) }
     ensures line { IfOk result (λ grid. (device_at grid 5).starts_closed ≡ true) }
+    ensures switched { IfOk result (λ grid. IsRadial (network_in grid (λ d. slice_index_or (true ∷ true ∷ true ∷ false ∷ true ∷ true ∷ []) d false))) }
 {
     let nodes = vec![in alloc;
         name(rt, b"S"),
@@ -222,5 +225,24 @@ fn tells_what_is_not_fed(rt: HostRuntime) -> Result<(), AllocError> {
     assert_eq!(rt; judged.depth(NodeId(6)), None);
     assert!(rt; judged.is_dark(NodeId(6)));
     assert!(rt; !judged.is_opened(DeviceId(3)));
+    Ok(())
+}
+
+// With the switch closed V is fed: a dark report there costs the line 150, and live ones at A keep the
+// breaker closed.
+#[test]
+fn judges_anew_after_a_switching(rt: HostRuntime) -> Result<(), AllocError> {
+    let grid = tied(&rt, rt.alloc())?;
+    let mut judged = Judged::new(rt.alloc(), &grid)?;
+    let closed = [true, true, true, false, true, true];
+    let dark = [0, 0, 60, 0, 130, 0, 300];
+    let live = [0, 100, 0, 0, 0, 0, 0];
+    judged.recompute(&grid, &closed, &[Mark::Nothing; 6], &dark, &live);
+    assert_eq!(rt; judged.cost(), 310);
+    assert_eq!(rt; judged.depth(NodeId(6)), Some(3));
+    assert_eq!(rt;
+        judged.flipped(),
+        [NodeId(2), NodeId(4), NodeId(5)].as_slice()
+    );
     Ok(())
 }

@@ -4,5 +4,6 @@ pub mod Decimals
 pub mod Stamps
 pub mod Calls
 pub mod EventText
+pub mod EventLines
 pub mod Output
 pub mod LeastLaws

@@ -6,38 +6,45 @@ ghost use Rattle.grid_reader.specs.Words as words;
 use fault_weights::{default_weight, weight_of_rate};
 use grid_model::{Kind, Setting};
 use line_text::read_decimal;
+use word_tables::{kind_words, setting_words, variant_at};
 
 /// The kind of a word.
 pub(crate) fn kind_named(word: &[u8]) -> Option<Kind>
     ensures { result ≡ words.kind_named word.now }
 {
-    match word {
-        b"fuse" => Some(Kind::Fuse),
-        b"transformer" => Some(Kind::Transformer),
-        b"recloser" => Some(Kind::Recloser),
-        b"breaker" => Some(Kind::Breaker),
-        b"line" => Some(Kind::Line),
-        b"switch" => Some(Kind::Switch),
-        b"tie" => Some(Kind::Tie),
-        _ => None,
-    }
+    let Some(place) = kind_words().find(word) else {
+        return None;
+    };
+    variant_at!(
+        place;
+        Kind::Fuse,
+        Kind::Transformer,
+        Kind::Recloser,
+        Kind::Breaker,
+        Kind::Line,
+        Kind::Switch,
+        Kind::Tie,
+    )
 }
 
 /// The setting of a word.
 pub(crate) fn setting_named(word: &[u8]) -> Option<Setting>
     ensures { result ≡ words.setting_named word.now }
 {
-    match word {
-        b"call" => Some(Setting::Call),
-        b"gasp" => Some(Setting::Gasp),
-        b"ping_down" => Some(Setting::PingDown),
-        b"ping_up" => Some(Setting::PingUp),
-        b"powerup" => Some(Setting::Powerup),
-        b"live_hold" => Some(Setting::LiveHold),
-        b"grace" => Some(Setting::Grace),
-        b"ok_hold" => Some(Setting::OkHold),
-        _ => None,
-    }
+    let Some(place) = setting_words().find(word) else {
+        return None;
+    };
+    variant_at!(
+        place;
+        Setting::Call,
+        Setting::Gasp,
+        Setting::PingDown,
+        Setting::PingUp,
+        Setting::Powerup,
+        Setting::LiveHold,
+        Setting::Grace,
+        Setting::OkHold,
+    )
 }
 
 /// Whether a device of this state is closed.

@@ -8,3 +8,7 @@ pub mod ShownLines
 pub mod DecimalValues
 pub mod DecimalSteps
 pub mod DecimalTexts
+pub mod StampShapes
+pub mod StampDays
+pub mod StampTexts
+pub mod StampSpelling

@@ -1,4 +1,4 @@
-//! Lines, fields and decimals of a text.
+//! Lines, fields, decimals and times of a text.
 #![tactic(auto)]
 
 mod commas;
@@ -9,15 +9,19 @@ mod laws;
 mod lines;
 mod row_fields;
 mod rows;
+mod stamps;
 
 pub use commas::Fields;
 pub use cuts::cut_at;
 pub use cutter::{Cut, LineCutter};
 pub use decimals::{put_decimal, read_decimal};
-pub use laws::{decimal_has_one_spelling, decimal_is_read, lines_from_parts};
+pub use laws::{
+    decimal_has_one_spelling, decimal_is_read, lines_from_parts, stamp_has_one_spelling,
+};
 pub use lines::{MOST_LINE, is_skipped_line, next_line};
 pub use row_fields::RowFields;
 pub use rows::{FieldsFault, fields};
+pub use stamps::{put_stamp, read_stamp};
 
 #[cfg(test)]
 mod tests;

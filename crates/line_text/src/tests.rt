@@ -1,12 +1,13 @@
-//! Texts that are cut, lines with their fields, and numbers.
+//! Texts that are cut, lines with their fields, numbers and times.
 ghost use Rattle.std.specs.Prelude.{◌≡◌, ◌≢◌, ◌↔◌, ◌++◌, ◌∷◌, [], List, ℕ, OnOk, IfOk, IsNone, IfSome, codes, flat_map, length, nat_le, if◌then◌else◌};
 ghost use Rattle.event_rules.specs.Lines.{lines, most_line};
 ghost use Rattle.line_text.specs.Cutting.{Tells};
 
 use crate::{
     Cut, Fields, FieldsFault, LineCutter, MOST_LINE, RowFields, cut_at, fields, is_skipped_line,
-    lines_from_parts, next_line, put_decimal, read_decimal,
+    lines_from_parts, next_line, put_decimal, put_stamp, read_decimal, read_stamp,
 };
+use grid_model::Stamp;
 use std::alloc::{AllocError, Global};
 use std::process::Abort;
 
@@ -212,4 +213,29 @@ fn skips_comments(rt: HostRuntime) {
     ] {
         assert!(rt; is_skipped_line(line) == skipped);
     }
+}
+
+#[test]
+fn reads_a_time(rt: HostRuntime) {
+    for (text, second) in [
+        ("2024-02-29T00:00:00Z", Some(1_709_164_800)),
+        ("9999-12-31T23:59:59Z", Some(253_402_300_799)),
+        ("2023-02-29T00:00:00Z", None),
+        ("1969-12-31T23:59:59Z", None),
+        ("2024-02-29T00:00:60Z", None),
+        ("2024-02-29T00:00:00z", None),
+        ("2024-02-29T00:00:00Z ", None),
+        ("2024-2-29T00:00:00Z", None),
+    ] {
+        let read = read_stamp(text.as_bytes());
+        assert!(rt; read.map(|at| at.0) == second, "{text:?}");
+    }
+}
+
+#[test]
+fn prints_a_time(rt: HostRuntime) {
+    let text = put_stamp(Stamp(1_709_164_800));
+    assert!(rt; text.as_slice() == b"2024-02-29T00:00:00Z".as_slice());
+    let text = put_stamp(Stamp(253_402_300_799));
+    assert!(rt; text.as_slice() == b"9999-12-31T23:59:59Z".as_slice());
 }

@@ -8,6 +8,7 @@ use Rattle.outage_rules.specs.Laws.{LiveIsAWalk}
 use Rattle.outage_rules.proofs.Rooted.{live_from_lit}
 use Rattle.radial_forest.specs.Traversed.{Traversed, table_of, IsOrder, IsTraversed}
 use Rattle.radial_forest.specs.Spreading.{is_reached, hangs, is_root, IsPartial}
+use Rattle.radial_forest.proofs.Alike.{same_test}
 use Rattle.radial_forest.proofs.Reaching.{order_short}
 
 -- a walk doesn't leave the reached nodes, nor enter them
@@ -24,12 +25,6 @@ whole_walk g t whole (suc k) a b w =
 none_above : (g : Network) (t : Table) (k n : ℕ) → cut_above g t nothing k n ≡ false
 none_above g t zero n = refl
 none_above g t (suc k) n = and_right (has_parent g t n) (cut_above g t nothing k (upper g t n)) (none_above g t k (upper g t n))
-
--- two tests that say the same
-same_test : (a b : Bool) → (a ≡ true → b ≡ true) → (b ≡ true → a ≡ true) → a ≡ b
-same_test true b h k = sym (h refl)
-same_test false true h k = k refl
-same_test false false h k = refl
 
 -- what is reached is what the sources feed
 pub reached_is_live : (g : Network) (t : Traversed) → IsSoundNetwork g → IsRooted g (table_of t) → IsWhole g (table_of t) → LiveIsAWalk → (n : ℕ) → n < g.nodes → is_reached t n ≡ is_live g nothing n

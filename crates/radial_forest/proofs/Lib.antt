@@ -1,3 +1,4 @@
+pub mod Alike
 pub mod Reaching
 pub mod Hanging
 pub mod Incident
@@ -8,3 +9,7 @@ pub mod Settled
 pub mod ByParents
 pub mod Halving
 pub mod SmallNetwork
+pub mod Rooted
+pub mod Climbing
+pub mod Looping
+pub mod Own

@@ -1,7 +1,9 @@
 //! Walks and loops on a small network.
-ghost use Rattle.std.specs.Prelude.{◌≡◌, false, IfOk, length};
+ghost use Rattle.std.specs.Prelude.{◌≡◌, false, IfOk, length, slice_index_or};
+ghost use Rattle.outage_rules.specs.Network.{IsRadial};
+ghost use Rattle.grid_model.specs.Network.{network_in};
 
-use super::{Traversal, first_loop};
+use super::{Forest, Traversal, first_loop};
 use grid_model::{Device, DeviceId, Grid, GridParts, Kind, Name, NodeId};
 use std::alloc::{AllocError, Global};
 use std::process::Abort;
@@ -100,5 +102,35 @@ fn walks_from_the_sources(rt: HostRuntime) -> Result<(), AllocError> {
     assert!(rt; traversal.parent(NodeId(3)) == Some(DeviceId(1)));
     assert!(rt; traversal.depth(NodeId(3)) == Some(2));
     assert!(rt; traversal.depth(NodeId(4)).is_none());
+    Ok(())
+}
+
+fn expect_radial(rt: &impl Abort, grid: &Grid, traversal: &mut Traversal, closed: &[bool])
+    requires states { length closed.now ≡ length grid.now.devices }
+    requires each { length traversal.old.depths ≡ length grid.now.nodes }
+    ensures radial { IsRadial (network_in grid.now (λ d. slice_index_or closed.now d false)) }
+    ensures each { length traversal.new.depths ≡ length grid.now.nodes }
+{
+    if !traversal.is_radial(grid, closed) {
+        panic!(rt; "a loop");
+    }
+}
+
+// Opening the line from A to B takes B from S, so that the line from B to T may be closed.
+#[test]
+fn roots_each_tree(rt: HostRuntime) -> Result<(), AllocError> {
+    let grid = network(&rt, rt.alloc())?;
+    let mut traversal = Traversal::new(rt.alloc(), &grid)?;
+    let closed = [true, true, false, false, true, false];
+    expect_radial(&rt, &grid, &mut traversal, &closed);
+    let mut forest = Forest::new(rt.alloc(), &grid, &closed)?;
+    assert!(rt; forest.root_of(NodeId(3)) == NodeId(0));
+    assert!(rt; forest.parent(NodeId(3)) == Some(DeviceId(1)));
+    assert!(rt; forest.would_loop(&grid, DeviceId(3)));
+    let opened = [true, false, false, false, true, false];
+    expect_radial(&rt, &grid, &mut traversal, &opened);
+    forest.rebuild(&grid, DeviceId(1), false);
+    assert!(rt; !forest.is_fed(&grid, NodeId(3)));
+    assert!(rt; !forest.would_loop(&grid, DeviceId(3)));
     Ok(())
 }

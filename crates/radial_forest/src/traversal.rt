@@ -30,7 +30,7 @@ impl Model for Traversal {
 }
 
 // The end of a device that isn't this node.
-fn other_end(grid: &Grid, d: DeviceId, n: NodeId) -> NodeId
+pub(crate) fn other_end(grid: &Grid, d: DeviceId, n: NodeId) -> NodeId
     requires { d.0 < length grid.now.devices }
     ensures { result.0 ≡ other_end (network_of grid.now) d.0 n.0 }
 {
@@ -90,12 +90,24 @@ impl Traversal {
         ensures radial { IsTrue result ↔ IsRadial (network_in grid.now (λ d. slice_index_or closed.now d false)) }
         ensures each { length self.new.depths ≡ length grid.now.nodes }
     {
-        self.feed(grid, closed);
-        self.root_all(grid, closed);
+        self.walk_all(grid, closed);
         radial_is_forest();
         forest_is_radial();
         radial_by_roots();
         self.are_parents(grid, closed)
+    }
+
+    // Walks the network anew and to each node: from the sources, and then from one node of each part
+    // that no source feeds.
+    pub(crate) fn walk_all(&mut self, grid: &Grid, closed: &[bool])
+        requires each { length self.old.depths ≡ length grid.now.nodes }
+        requires states { length closed.now ≡ length grid.now.devices }
+        ensures sound { IsSoundParts grid.now }
+        ensures settled { IsSettled (switched grid.now closed.now) self.new }
+        ensures all { (n : ℕ) → n < length grid.now.nodes → is_reached self.new n ≡ true }
+    {
+        self.feed(grid, closed);
+        self.root_all(grid, closed);
     }
 
     /// The fed nodes: sources first, and each other node after the one that it hangs from.

@@ -1,0 +1,5 @@
+pub mod Placing
+pub mod Entries
+pub mod Settling
+pub mod Popping
+pub mod Reading

@@ -1,0 +1,3 @@
+pub mod ShapesOfWords
+pub mod SmallFeeder
+pub mod Readings
