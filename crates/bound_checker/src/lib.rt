@@ -1,12 +1,15 @@
 //! The local check: whether bounds show that their cuts are a cheapest explanation of the reports.
 #![tactic(auto)]
 
-ghost use Rattle.std.specs.Prelude.{◌≡◌, length, IfOk};
+ghost use Rattle.std.specs.Prelude.{◌≡◌, List, length, IfOk};
 ghost use Rattle.grid_model.specs.Sound.{IsSoundParts};
 ghost use Rattle.outage_rules.specs.Certificate.{IsCertified};
 ghost use Rattle.bound_table.specs.Sound.{IsTableOf};
 ghost use Rattle.bound_checker.specs.declared.rules.Verdict.TheVariants.{Valid};
 ghost use Rattle.grid_model.specs.Problem.{problem_of};
+ghost use Rattle.grid_model.specs.declared.history.Event.{Event};
+ghost use Rattle.history_rules.specs.Posed.{problem_after};
+ghost use Rattle.field_state.specs.Fielded.{IsField, IsFieldAfter};
 ghost use Rattle.bound_checker.specs.Claimed.{table_of, cut_of, table_in, cut_in};
 ghost use Rattle.bound_checker.specs.Verdict.{verdict_of};
 
@@ -22,15 +25,43 @@ mod rules;
 
 use bound_table::Bounds;
 use claims::Claim;
+use field_state::{Field, field_poses};
 use grid_model::{Grid, Mark};
 pub use laws::{tight_is_valid, valid_is_certified, valid_is_passed};
 pub use rules::{CheckRule, Place, Verdict};
 use std::alloc::{AllocError, Global};
 
-/// Checks bounds against the network, with these devices closed and marked, one entry a device,
-/// and with these weights of the dark and of the live reports, one entry a node. The verdict is
-/// the first rule whose condition fails, at its first place; an error says that memory ran out.
+/// Checks bounds against the network and the field after events: its states, its marks and what its
+/// reports weigh. The verdict is the first rule whose condition fails, at its first place; an error
+/// says that memory ran out.
 pub fn check(
+    alloc: Global,
+    grid: &Grid,
+    field: &Field,
+    bounds: &Bounds,
+) -> Result<Verdict, AllocError>
+    requires field { IsField grid.now field.now }
+    requires bounds { IsTableOf grid.now bounds.now }
+    ensures verdict { IfOk result (λ v. (h : List Event) → IsFieldAfter grid.now h field.now
+        → v ≡ verdict_of (problem_after grid.now h) (table_of (length grid.now.devices) bounds.now.rows) (cut_of bounds.now.cuts) bounds.now.cost) }
+    ensures certified { IfOk result (λ v. (h : List Event) → IsFieldAfter grid.now h field.now → v ≡ Valid
+        → IsCertified (problem_after grid.now h) (cut_of bounds.now.cuts) bounds.now.cost) }
+{
+    field_poses();
+    check_states(
+        alloc,
+        grid,
+        field.closed(),
+        field.marks(),
+        field.dark_weights(),
+        field.live_weights(),
+        bounds,
+    )
+}
+
+/// The same with these devices closed and marked, one entry a device, and with these weights of the
+/// dark and of the live reports, one entry a node.
+pub fn check_states(
     alloc: Global,
     grid: &Grid,
     closed: &[bool],

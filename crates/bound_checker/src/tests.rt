@@ -1,7 +1,7 @@
 //! Bounds of a small feeder, checked.
 ghost use Rattle.std.specs.Prelude.{◌≡◌, ◌≤◌, true, length, IfOk};
 
-use crate::{CheckRule, Place, Verdict, check};
+use crate::{CheckRule, Place, Verdict, check_states};
 use bound_table::read_bounds;
 use grid_model::{Device, DeviceId, Grid, GridParts, Kind, Mark, Name, NodeId};
 use std::alloc::{AllocError, Global};
@@ -85,7 +85,7 @@ fn answer(
     let Ok(bounds) = read_bounds(alloc, grid, report.as_bytes()) else {
         return None;
     };
-    check(alloc, grid, closed, marks, &DARK, &LIVE, &bounds).ok()
+    check_states(alloc, grid, closed, marks, &DARK, &LIVE, &bounds).ok()
 }
 
 // The reports at C weigh 60 for darkness, and 5 at A for light.

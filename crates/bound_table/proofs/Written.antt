@@ -8,7 +8,7 @@ use Rattle.std.proofs.lemmas.Option.{slice_get_cases}
 use Rattle.grid_model.specs.Parts.{Parts}
 use Rattle.grid_model.specs.Sound.{IsSoundParts}
 use Rattle.grid_model.specs.declared.parts.DeviceId.{DeviceId}
-use Rattle.event_rules.specs.Output.{row}
+use Rattle.event_rules.specs.Rows.{row}
 use Rattle.bound_table.specs.declared.bounds.BoundRow.{BoundRow}
 use Rattle.bound_table.specs.declared.bound_line.BoundLine.TheVariants.{Cut, Row, End}
 use Rattle.bound_table.specs.Table.{Table}

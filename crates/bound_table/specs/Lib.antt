@@ -8,3 +8,4 @@ pub mod Report
 pub mod Faults
 pub mod Laws
 pub mod Tight
+pub mod Words

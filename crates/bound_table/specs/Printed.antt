@@ -4,7 +4,7 @@ use Rattle.grid_model.specs.Parts.{Parts}
 use Rattle.grid_model.specs.Places.{device_at}
 use Rattle.grid_model.specs.declared.parts.NodeId.{NodeId}
 use Rattle.grid_model.specs.declared.parts.DeviceId.{DeviceId}
-use Rattle.event_rules.specs.Output.{row}
+use Rattle.event_rules.specs.Rows.{row}
 use Rattle.bound_table.specs.declared.bounds.BoundRow.{BoundRow}
 use Rattle.bound_table.specs.Table.{Table}
 

@@ -7,11 +7,13 @@ mod bounds;
 mod laws;
 mod lines;
 mod read;
+mod words;
 mod write;
 
 pub use bounds::{BoundFault, BoundRow, BoundRule, Bounds};
 pub use laws::{read_is_of_network, written_is_read};
 pub use read::read_bounds;
+pub use words::{ReportWord, text_of};
 pub use write::put_bounds;
 
 #[cfg(test)]

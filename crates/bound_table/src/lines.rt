@@ -5,9 +5,11 @@ ghost use Rattle.grid_model.specs.Parts.{Parts};
 ghost use Rattle.bound_table.specs.declared.bounds.BoundRule.TheVariants as rule;
 ghost use Rattle.bound_table.specs.BoundLines.{is_plain, cost_of, cost_of_fields, device_of, node_of, cut_of, row_of, row_with, end_of, line_of, line_of_fields, parent_of, is_parent};
 ghost use Rattle.bound_table.specs.Parents.{parent_named};
+ghost use Rattle.bound_table.specs.Words.{spelling};
 
 use crate::bound_line::BoundLine;
 use crate::bounds::{BoundRow, BoundRule};
+use crate::words::{ReportWord, report_word};
 use grid_model::{DeviceId, Grid, Name, NodeId};
 use line_text::{Fields, MOST_LINE, read_decimal};
 
@@ -178,22 +180,35 @@ fn read_end(fields: Fields<'_>) -> Result<BoundLine, BoundRule>
     Ok(BoundLine::End)
 }
 
+// The line of a word and of the fields behind it.
+fn read_worded(
+    grid: &Grid,
+    may_cut: bool,
+    word: ReportWord,
+    fields: Fields<'_>,
+) -> Result<BoundLine, BoundRule>
+    ensures { result ≡ line_of_fields grid.now may_cut (spelling word ∷ fields.entry) }
+{
+    match word {
+        ReportWord::Cut if may_cut => read_cut(grid, fields),
+        ReportWord::Row => {
+            let texts = row_texts(fields).ok_or(BoundRule::BadRow)?;
+            read_row(grid, texts)
+        }
+        ReportWord::EndBounds => read_end(fields),
+        _ => Err(BoundRule::BadRow),
+    }
+}
+
 // The words of a line.
 fn read_fields(grid: &Grid, may_cut: bool, mut fields: Fields<'_>) -> Result<BoundLine, BoundRule>
     ensures { result ≡ line_of_fields grid.now may_cut fields.entry }
 {
     let word = fields.next().ok_or(BoundRule::BadRow)?;
-    if word == b"cut".as_slice() && may_cut {
-        return read_cut(grid, fields);
-    }
-    if word == b"row".as_slice() {
-        let texts = row_texts(fields).ok_or(BoundRule::BadRow)?;
-        return read_row(grid, texts);
-    }
-    if word == b"endbounds".as_slice() {
-        return read_end(fields);
-    }
-    Err(BoundRule::BadRow)
+    let Some(word) = report_word(word) else {
+        return Err(BoundRule::BadRow);
+    };
+    read_worded(grid, may_cut, word, fields)
 }
 
 /// What a later line of a bounds part says, or the first rule that it breaks by itself.

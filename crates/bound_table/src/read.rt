@@ -10,6 +10,7 @@ use crate::bound_line::BoundLine;
 use crate::bounds::{BoundFault, BoundRow, BoundRule, Bounds};
 use crate::laws::read_is_of_network;
 use crate::lines::{read_cost, read_line};
+use crate::words::{ReportWord, text_of};
 use grid_model::{DeviceId, Grid};
 use line_text::cut_at;
 use std::alloc::Global;
@@ -24,7 +25,8 @@ struct Left<'a> {
 fn is_first_of_bounds(line: &[u8]) -> bool
     ensures { result ≡ begins_bounds line.now }
 {
-    line.starts_with(b"bounds,")
+    line.strip_prefix(text_of(ReportWord::Bounds))
+        .is_some_and(|behind| behind.starts_with(b","))
 }
 
 // The cost of the bounds part, and what is left behind its first line.

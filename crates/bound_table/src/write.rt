@@ -2,17 +2,28 @@
 ghost use Rattle.std.specs.Prelude.{◌≡◌, ◌<◌, ◌++◌, ◌∷◌, [], length, OnOk, IfOk, IfSome, All, flat_map, codes, decimal};
 ghost use Rattle.bound_table.specs.Sound.{IsTableOf, IsRowOf};
 ghost use Rattle.bound_table.specs.Printed.{device_name, node_name, parent_word, cost_text, cut_text, row_text, end_text, bounds_text};
+ghost use Rattle.bound_table.specs.Words.{spelling};
 
 use crate::bounds::{BoundRow, Bounds};
+use crate::words::{ReportWord, text_of};
 use grid_model::{DeviceId, Grid, NodeId};
 use line_text::put_decimal;
 use std::alloc::{AllocError, Global};
+
+// A word and a comma.
+fn put_word(text: &mut Vec<u8>, word: ReportWord) -> Result<(), AllocError>
+    ensures { OnOk result (text.new.items ≡ text.old.items ++ spelling word ++ 44 ∷ []) }
+{
+    text.extend_from_slice(text_of(word))?;
+    text.push(b',')?;
+    Ok(())
+}
 
 // bounds,COST
 fn put_cost(text: &mut Vec<u8>, bounds: &Bounds) -> Result<(), AllocError>
     ensures { OnOk result (text.new.items ≡ text.old.items ++ cost_text bounds.now) }
 {
-    text.extend_from_slice(b"bounds,")?;
+    put_word(text, ReportWord::Bounds)?;
     put_decimal(text, bounds.cost)?;
     text.push(b'\n')?;
     Ok(())
@@ -47,7 +58,7 @@ fn put_cut(text: &mut Vec<u8>, grid: &Grid, cut: DeviceId) -> Result<(), AllocEr
     requires { cut.0 < length grid.now.devices }
     ensures { OnOk result (text.new.items ≡ text.old.items ++ cut_text grid.now cut) }
 {
-    text.extend_from_slice(b"cut,")?;
+    put_word(text, ReportWord::Cut)?;
     put_device(text, grid, cut)?;
     text.push(b'\n')?;
     Ok(())
@@ -66,7 +77,7 @@ fn put_row(text: &mut Vec<u8>, grid: &Grid, row: &BoundRow) -> Result<(), AllocE
     requires { IsRowOf grid.now row.now }
     ensures { OnOk result (text.new.items ≡ text.old.items ++ row_text grid.now row.now) }
 {
-    text.extend_from_slice(b"row,")?;
+    put_word(text, ReportWord::Row)?;
     put_node(text, grid, row.node)?;
     text.push(b',')?;
     put_parent(text, grid, row.parent)?;
@@ -97,6 +108,15 @@ fn put_rows(text: &mut Vec<u8>, grid: &Grid, rows: &[BoundRow]) -> Result<(), Al
     Ok(())
 }
 
+// endbounds
+fn put_end(text: &mut Vec<u8>) -> Result<(), AllocError>
+    ensures { OnOk result (text.new.items ≡ text.old.items ++ end_text) }
+{
+    text.extend_from_slice(text_of(ReportWord::EndBounds))?;
+    text.push(b'\n')?;
+    Ok(())
+}
+
 /// The bounds part of a report: `bounds,COST`, a line `cut,DEVICE` for each cut, a line
 /// `row,NODE,PARENT,DEPTH,LIVE,DARK` for each row, and `endbounds`.
 #[tactic(auto, unfolding(crate::specs::Printed::bounds_text))]
@@ -108,6 +128,6 @@ pub fn put_bounds(alloc: Global, grid: &Grid, bounds: &Bounds) -> Result<Vec<u8>
     put_cost(&mut text, bounds)?;
     put_cuts(&mut text, grid, &bounds.cuts)?;
     put_rows(&mut text, grid, &bounds.rows)?;
-    text.extend_from_slice(b"endbounds\n")?;
+    put_end(&mut text)?;
     Ok(text)
 }

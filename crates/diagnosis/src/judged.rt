@@ -166,6 +166,13 @@ impl Judged {
         self.traversal.parent(n)
     }
 
+    /// The fed nodes, each after the one that it hangs from.
+    pub fn order(&self) -> &[NodeId]
+        ensures { result.now ≡ self.now.order }
+    {
+        self.traversal.order()
+    }
+
     /// How many devices are between a node and its source: none for a node that isn't fed.
     pub fn depth(&self, n: NodeId) -> Option<u32>
         requires { n.0 < length self.now.dark }

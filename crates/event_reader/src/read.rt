@@ -1,5 +1,5 @@
 //! Reading the lines of an event text.
-ghost use Rattle.std.specs.Prelude.{◌≡◌, ◌↔◌, true, None, Some, Ok, Err};
+ghost use Rattle.std.specs.Prelude.{◌≡◌, ◌↔◌, ◌≤◌, true, None, Some, Ok, Err, IfOk, IfSome};
 ghost use Rattle.grid_model.specs.declared.history.Event.{Event};
 ghost use Rattle.event_rules.specs.declared.read_rule.ReadRule.{ReadRule};
 ghost use Rattle.event_rules.specs.Lines.{is_skipped};
@@ -17,7 +17,8 @@ use std::alloc::Global;
 
 // The event of a report and of the text of its time.
 fn event_of_report(grid: &Grid, time: &[u8], report: Report<'_>) -> Result<Event, ReadRule>
-    ensures { result ≡ lines.event_of_shape grid.now time.now (Ok (shape_view report.entry)) }
+    ensures event { result ≡ lines.event_of_shape grid.now time.now (Ok (shape_view report.entry)) }
+    ensures bound { IfOk result (λ e. e.time.0 ≤ 253_402_300_799) }
 {
     let time = read_stamp(time).ok_or(ReadRule::BadTime)?;
     let what = find_what(grid, report)?;
@@ -42,7 +43,8 @@ fn report_of<'a>(word: &[u8], mut rest: RowFields<'a>) -> Result<Report<'a>, Rea
 
 // The event of the fields of a line.
 fn event_of_fields(grid: &Grid, mut fields: RowFields<'_>) -> Result<Event, ReadRule>
-    ensures { result ≡ lines.event_of_fields grid.now fields.entry }
+    ensures event { result ≡ lines.event_of_fields grid.now fields.entry }
+    ensures bound { IfOk result (λ e. e.time.0 ≤ 253_402_300_799) }
 {
     let time = fields.next().ok_or(ReadRule::BadFields)?;
     let word = fields.next().ok_or(ReadRule::BadFields)?;
@@ -61,6 +63,7 @@ fn event_of_fields(grid: &Grid, mut fields: RowFields<'_>) -> Result<Event, Read
 pub fn read_event(alloc: Global, grid: &Grid, line: &[u8]) -> Result<Option<Event>, ReadRefusal>
     ensures skipped { (result ≡ Ok None) ↔ (is_skipped line.now ≡ true) }
     ensures event { (event : Event) → result ≡ Ok (Some event) → lines.event_reading grid.now line.now ≡ lines.IsEvent event }
+    ensures bound { IfOk result (λ found. IfSome found (λ event. event.time.0 ≤ 253_402_300_799)) }
     ensures refused { (rule : ReadRule) → result ≡ Err (refusal_by rule) → lines.event_reading grid.now line.now ≡ lines.IsRefused rule }
 {
     if is_skipped_line(line) {

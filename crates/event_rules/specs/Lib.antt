@@ -1,9 +1,6 @@
 pub mod Lines
 pub mod Fields
+pub mod Rows
 pub mod Decimals
 pub mod Stamps
-pub mod Calls
-pub mod EventText
 pub mod EventLines
-pub mod Output
-pub mod LeastLaws

@@ -1,23 +1,26 @@
--- The rows of the devices that a recompute lists as changed are those of two diagnoses.
-use Rattle.std.proofs.Common.{◌≡◌, ℕ, ◌<◌, Bool, true, false, cond, refl, sym, ap, ◌∙◌, arith, List, [], ◌∷◌, ◌++◌, All, length, map, get_or, append_assoc, append-nil}
-use Rattle.std.specs.Prelude.{◌&&◌, not, codes, decimal, filter, flat_map}
+-- The rows of the devices that an event lists as changed are those of two diagnoses.
+use Rattle.std.proofs.Common.{◌≡◌, ℕ, ◌+◌, ◌<◌, Bool, true, false, cond, refl, sym, ap, ◌∙◌, subst, arith, List, [], ◌∷◌, ◌++◌, All, length, map, get_or, append_assoc, Ok, Err, Result}
+use Rattle.std.specs.Prelude.{◌&&◌, not, codes, decimal, filter, flat_map, Option, None, Some}
 use Rattle.std.specs.List.{range_with_len}
 use Rattle.std.proofs.Math.Path.{fun_ext}
-use Rattle.std.proofs.lemmas.Bool.{eq-eqb}
 use Rattle.std.proofs.lemmas.List.Folds.{flat_map-map}
 use Rattle.std.proofs.lemmas.List.Elements.{All-filter}
 use Rattle.std.proofs.lemmas.List.{length-map, get_or-map}
 use Rattle.std.proofs.lemmas.List.FromFn.{get_or-range_with_len, length-range_with_len}
-use Rattle.outage_rules.specs.Network.{Cut}
 use Rattle.grid_model.specs.Parts.{Parts}
 use Rattle.grid_model.specs.Places.{device_at}
+use Rattle.grid_model.specs.Problem.{posed}
 use Rattle.grid_model.specs.declared.parts.DeviceId.{DeviceId}
-use Rattle.event_rules.specs.Calls.{least_of, diagnosis_of}
-use Rattle.event_rules.specs.Output.{row, cost_row, change_rows, changes}
+use Rattle.grid_model.specs.declared.history.Event.{Event}
+use Rattle.grid_model.specs.declared.history.Refusal.{Refusal}
+use Rattle.event_rules.specs.Rows.{row}
+use Rattle.history_rules.specs.Posed.{problem_after, least_after, diagnosis_after, refusal_of, joined, joined_by}
+use Rattle.history_rules.specs.Run.{Unapplied, outcome_by}
+use Rattle.history_rules.specs.Output.{cost_row, change_rows, changes, refused_row, entry}
 use Rattle.diagnosis.specs.Judgement.{Judgement, opened_by, differ, differences}
-use Rattle.outage_cli.specs.declared.tally.Tally.{Tally}
-use Rattle.outage_cli.specs.Tallied.{Tallies}
-use Rattle.outage_cli.specs.Changes.{device_rows}
+use Rattle.outage_engine.specs.declared.Applied.{Applied}
+use Rattle.outage_engine.specs.Engined.{Engined, IsEngineAfter, answer_by}
+use Rattle.outage_cli.specs.Entered.{device_rows}
 
 filter_step : {X A : Type 0} (f : X → List A) (b : Bool) (x : X) (xs : List X) (rest : List A) → flat_map f xs ≡ rest → flat_map f (cond b (x ∷ xs) xs) ≡ cond b (f x) [] ++ rest
 filter_step f true x xs rest e = ap (λ ys. f x ++ ys) e
@@ -27,10 +30,6 @@ filter_step f false x xs rest e = e
 flat_map-filter : {X A : Type 0} (f : X → List A) (test : X → Bool) (xs : List X) → flat_map f (filter test xs) ≡ flat_map (λ x. cond (test x) (f x) []) xs
 flat_map-filter f test [] = refl
 flat_map-filter f test (x ∷ xs) = filter_step f (test x) x (filter test xs) _ (flat_map-filter f test xs)
-
-flat_map-none : {X A : Type 0} (f : X → List A) (xs : List X) → ((x : X) → f x ≡ []) → flat_map f xs ≡ []
-flat_map-none f [] none = refl
-flat_map-none f (x ∷ xs) none = ap (λ ys. ys ++ flat_map f xs) (none x) ∙ flat_map-none f xs none
 
 -- the devices that changed are of the network
 pub changed_known : (changed : List DeviceId) (before now : List Bool) (n : ℕ) → map (λ d. d.0) changed ≡ differences before now → length now ≡ n → All (λ d. d.0 < n) changed
@@ -60,69 +59,86 @@ entering true false xs = refl
 entering false true xs = refl
 entering false false xs = refl
 
--- nothing changes between equal sets
-staying : (b : Bool) (xs : List ℕ) → cond (b && not b) xs [] ≡ []
-staying true xs = refl
-staying false xs = refl
+module _ (g : Parts) (word : List ℕ) (line : ℕ) (j : Judgement) (before : List Bool) (listed : map (λ d. d.0) j.changed ≡ differences before j.opened) (each : length j.opened ≡ length g.devices) where
+  rows_of : (was_opened : Bool) → device_rows g word line j was_opened j.changed
+      ≡ flat_map (λ d. cond (differ (get_or before d false) (opened_by j d)) (cond (differ was_opened (opened_by j d)) (row (word ∷ decimal line ∷ (device_at g d).name ∷ [])) []) []) (range_with_len 0 (length g.devices))
+  rows_of was_opened =
+      let here = λ (d : ℕ). cond (differ was_opened (opened_by j d)) (row (word ∷ decimal line ∷ (device_at g d).name ∷ [])) [] in
+      sym (flat_map-map here (λ d. d.0) j.changed)
+      ∙ ap (flat_map here) listed
+      ∙ flat_map-filter here (λ d. differ (get_or before d false) (opened_by j d)) (range_with_len 0 (length j.opened))
+      ∙ ap (λ n. flat_map (λ d. cond (differ (get_or before d false) (opened_by j d)) (here d) []) (range_with_len 0 n)) each
 
-module _ (g : Parts) (word : List ℕ) (line : ℕ) where
-  device_row : ℕ → List ℕ
-  device_row d = row (word ∷ decimal line ∷ (device_at g d).name ∷ [])
-
-  module _ (j : Judgement) (before : List Bool) (listed : map (λ d. d.0) j.changed ≡ differences before j.opened) (each : length j.opened ≡ length g.devices) where
-    rows_of : (was_opened : Bool) → device_rows g word line j was_opened j.changed
-        ≡ flat_map (λ d. cond (differ (get_or before d false) (opened_by j d)) (cond (differ was_opened (opened_by j d)) (row (word ∷ decimal line ∷ (device_at g d).name ∷ [])) []) []) (range_with_len 0 (length g.devices))
-    rows_of was_opened =
-        let here = λ (d : ℕ). cond (differ was_opened (opened_by j d)) (row (word ∷ decimal line ∷ (device_at g d).name ∷ [])) [] in
-        sym (flat_map-map here (λ d. d.0) j.changed)
-        ∙ ap (flat_map here) listed
-        ∙ flat_map-filter here (λ d. differ (get_or before d false) (opened_by j d)) (range_with_len 0 (length j.opened))
-        ∙ ap (λ n. flat_map (λ d. cond (differ (get_or before d false) (opened_by j d)) (here d) []) (range_with_len 0 n)) each
-
-    pub leaving_rows : device_rows g word line j true j.changed ≡ change_rows g word line (λ d. get_or before d false) (opened_by j)
-    unfolding change_rows
-    leaving_rows = rows_of true ∙ ap (λ f. flat_map f (range_with_len 0 (length g.devices))) (fun_ext (λ d. leaving (get_or before d false) (opened_by j d) (row (word ∷ decimal line ∷ (device_at g d).name ∷ []))))
-
-    pub entering_rows : device_rows g word line j false j.changed ≡ change_rows g word line (opened_by j) (λ d. get_or before d false)
-    unfolding change_rows
-    entering_rows = rows_of false ∙ ap (λ f. flat_map f (range_with_len 0 (length g.devices))) (fun_ext (λ d. entering (get_or before d false) (opened_by j d) (row (word ∷ decimal line ∷ (device_at g d).name ∷ []))))
-
-  no_rows : (cut : Cut) → change_rows g word line cut cut ≡ []
+  pub leaving_rows : device_rows g word line j true j.changed ≡ change_rows g word line (λ d. get_or before d false) (opened_by j)
   unfolding change_rows
-  no_rows cut = flat_map-none _ (range_with_len 0 (length g.devices)) (λ d. staying (cut d) (row (word ∷ decimal line ∷ (device_at g d).name ∷ [])))
+  leaving_rows = rows_of true ∙ ap (λ f. flat_map f (range_with_len 0 (length g.devices))) (fun_ext (λ d. leaving (get_or before d false) (opened_by j d) (row (word ∷ decimal line ∷ (device_at g d).name ∷ []))))
 
-module _ (g : Parts) (calls : List ℕ) (m line : ℕ) (t u : Tally) (before : Tallies g calls t) (after : Tallies g (m ∷ calls) u) where
-  -- what is printed of a call after which the network was judged anew
-  pub changes_printed : (out printed : List ℕ) (cost_before cost_after : ℕ) → map (λ d. d.0) u.judged.changed ≡ differences t.judged.opened u.judged.opened → length u.judged.opened ≡ length g.devices
-      → cost_before ≡ least_of g calls → cost_after ≡ least_of g (m ∷ calls)
-      → printed ≡ out ++ device_rows g (codes "leaves") line u.judged true u.judged.changed ++ device_rows g (codes "enters") line u.judged false u.judged.changed ++ cost_row line cost_before cost_after
-      → printed ≡ out ++ changes g line calls (m ∷ calls)
-  changes_printed out printed cost_before cost_after listed each is_before is_after e =
-      let leave = leaving_rows g (codes "leaves") line u.judged t.judged.opened listed each
-      ∙ ap (λ c. change_rows g (codes "leaves") line c (opened_by u.judged)) before.opened
-      ∙ ap (change_rows g (codes "leaves") line (diagnosis_of g calls)) after.opened in
-      let enter = entering_rows g (codes "enters") line u.judged t.judged.opened listed each
-      ∙ ap (change_rows g (codes "enters") line (opened_by u.judged)) before.opened
-      ∙ ap (λ c. change_rows g (codes "enters") line c (diagnosis_of g calls)) after.opened in
+  pub entering_rows : device_rows g word line j false j.changed ≡ change_rows g word line (opened_by j) (λ d. get_or before d false)
+  unfolding change_rows
+  entering_rows = rows_of false ∙ ap (λ f. flat_map f (range_with_len 0 (length g.devices))) (fun_ext (λ d. entering (get_or before d false) (opened_by j d) (row (word ∷ decimal line ∷ (device_at g d).name ∷ []))))
+
+-- the judgement has a flag for each device
+pub opened_each : (h : List Event) (e : Engined) → IsEngineAfter h e → length e.judged.opened ≡ length e.grid.devices
+unfolding problem_after
+opened_each h e after = after.judged.sized.opened
+
+module _ (g : Parts) (before after : List Event) (line : ℕ) (old new : Engined) (was : IsEngineAfter before old) (is : IsEngineAfter after new) (old_grid : old.grid ≡ g) (new_grid : new.grid ≡ g) where
+  -- what is printed of an event
+  pub changes_printed : (out printed : List ℕ) (cost_before cost_after : ℕ) → map (λ d. d.0) new.judged.changed ≡ differences old.judged.opened new.judged.opened
+      → cost_before ≡ least_after g before → cost_after ≡ least_after g after
+      → printed ≡ out ++ device_rows g (codes "leaves") line new.judged true new.judged.changed ++ device_rows g (codes "enters") line new.judged false new.judged.changed ++ cost_row line cost_before cost_after
+      → printed ≡ out ++ changes g line before after
+  changes_printed out printed cost_before cost_after listed is_before is_after e =
+      let each = opened_each after new is ∙ ap (λ p. length p.devices) new_grid in
+      let first : opened_by old.judged ≡ diagnosis_after g before = was.opened ∙ ap (λ p. diagnosis_after p before) old_grid in
+      let second : opened_by new.judged ≡ diagnosis_after g after = is.opened ∙ ap (λ p. diagnosis_after p after) new_grid in
+      let leave = leaving_rows g (codes "leaves") line new.judged old.judged.opened listed each
+      ∙ ap (λ c. change_rows g (codes "leaves") line c (opened_by new.judged)) first
+      ∙ ap (change_rows g (codes "leaves") line (diagnosis_after g before)) second in
+      let enter = entering_rows g (codes "enters") line new.judged old.judged.opened listed each
+      ∙ ap (change_rows g (codes "enters") line (opened_by new.judged)) first
+      ∙ ap (λ c. change_rows g (codes "enters") line c (diagnosis_after g before)) second in
       e
-      ∙ ap (λ xs. out ++ xs ++ device_rows g (codes "enters") line u.judged false u.judged.changed ++ cost_row line cost_before cost_after) leave
-      ∙ ap (λ xs. out ++ change_rows g (codes "leaves") line (diagnosis_of g calls) (diagnosis_of g (m ∷ calls)) ++ xs ++ cost_row line cost_before cost_after) enter
-      ∙ ap (λ n. out ++ change_rows g (codes "leaves") line (diagnosis_of g calls) (diagnosis_of g (m ∷ calls)) ++ change_rows g (codes "enters") line (diagnosis_of g (m ∷ calls)) (diagnosis_of g calls) ++ cost_row line n cost_after) is_before
-      ∙ ap (λ n. out ++ change_rows g (codes "leaves") line (diagnosis_of g calls) (diagnosis_of g (m ∷ calls)) ++ change_rows g (codes "enters") line (diagnosis_of g (m ∷ calls)) (diagnosis_of g calls) ++ cost_row line (least_of g calls) n) is_after
-      ∙ regroup out (change_rows g (codes "leaves") line (diagnosis_of g calls) (diagnosis_of g (m ∷ calls))) (change_rows g (codes "enters") line (diagnosis_of g (m ∷ calls)) (diagnosis_of g calls)) (cost_row line (least_of g calls) (least_of g (m ∷ calls)))
+      ∙ ap (λ xs. out ++ xs ++ device_rows g (codes "enters") line new.judged false new.judged.changed ++ cost_row line cost_before cost_after) leave
+      ∙ ap (λ xs. out ++ change_rows g (codes "leaves") line (diagnosis_after g before) (diagnosis_after g after) ++ xs ++ cost_row line cost_before cost_after) enter
+      ∙ ap (λ n. out ++ change_rows g (codes "leaves") line (diagnosis_after g before) (diagnosis_after g after) ++ change_rows g (codes "enters") line (diagnosis_after g after) (diagnosis_after g before) ++ cost_row line n cost_after) is_before
+      ∙ ap (λ n. out ++ change_rows g (codes "leaves") line (diagnosis_after g before) (diagnosis_after g after) ++ change_rows g (codes "enters") line (diagnosis_after g after) (diagnosis_after g before) ++ cost_row line (least_after g before) n) is_after
+      ∙ regroup out (change_rows g (codes "leaves") line (diagnosis_after g before) (diagnosis_after g after)) (change_rows g (codes "enters") line (diagnosis_after g after) (diagnosis_after g before)) (cost_row line (least_after g before) (least_after g after))
     where
       regroup : (a b c d : List ℕ) → a ++ b ++ c ++ d ≡ a ++ (b ++ c ++ d)
       regroup a b c d = simp append_assoc
 
-  -- nothing is printed of a call that changes nothing
-  pub nothing_printed : (out : List ℕ) → u.judged ≡ t.judged → out ≡ out ++ changes g line calls (m ∷ calls)
-  nothing_printed out same =
-      let cut : diagnosis_of g (m ∷ calls) ≡ diagnosis_of g calls = sym after.opened ∙ ap opened_by same ∙ before.opened in
-      let price : least_of g (m ∷ calls) ≡ least_of g calls = sym after.cost ∙ ap (λ j. j.cost) same ∙ before.cost in
-      sym (
-      ap (λ c. out ++ (change_rows g (codes "leaves") line (diagnosis_of g calls) c ++ change_rows g (codes "enters") line c (diagnosis_of g calls) ++ cost_row line (least_of g calls) (least_of g (m ∷ calls)))) cut
-      ∙ ap (λ n. out ++ (change_rows g (codes "leaves") line (diagnosis_of g calls) (diagnosis_of g calls) ++ change_rows g (codes "enters") line (diagnosis_of g calls) (diagnosis_of g calls) ++ cost_row line (least_of g calls) n)) price
-      ∙ ap (λ xs. out ++ (xs ++ change_rows g (codes "enters") line (diagnosis_of g calls) (diagnosis_of g calls) ++ cost_row line (least_of g calls) (least_of g calls))) (no_rows g (codes "leaves") line (diagnosis_of g calls))
-      ∙ ap (λ xs. out ++ (xs ++ cost_row line (least_of g calls) (least_of g calls))) (no_rows g (codes "enters") line (diagnosis_of g calls))
-      ∙ ap (λ b. out ++ cond b [] (row (codes "cost" ∷ decimal line ∷ decimal (least_of g calls) ∷ []))) (eq-eqb (least_of g calls) (least_of g calls) refl)
-      ∙ append-nil out)
+-- an event that was applied was refused by no rule, and the costs are those before it and after it
+applied_costs : (g : Parts) (h : List Event) (event : Event) (rule : Option Refusal) (applied : Applied) → Ok applied ≡ answer_by g h event rule →
+    (rule ≡ None) × (applied.cost_before ≡ least_after g h) × (applied.cost_after ≡ least_after g (joined g h event))
+applied_costs g h event None applied e = (refl, cc, cc)
+applied_costs g h event (Some rule) applied e = cc
+
+-- one that wasn't was refused by the rule
+pub refused_by : (g : Parts) (h : List Event) (event : Event) (found : Option Refusal) (rule : Refusal) → Err rule ≡ answer_by g h event found → found ≡ Some rule
+refused_by g h event None rule e = cc
+refused_by g h event (Some broken) rule e = cc
+
+-- what `put_changes` leaves
+abbrev pub put_text : List ℕ → ℕ → Parts → Judgement → Applied → List ℕ
+put_text out line g j applied = out ++ device_rows g (codes "leaves") line j true j.changed ++ device_rows g (codes "enters") line j false j.changed ++ cost_row line applied.cost_before applied.cost_after
+
+-- what is printed of an event that was applied
+pub applied_printed : (h : List Event) (event : Event) (line : ℕ) (old new : Engined) (applied : Applied) (out printed : List ℕ) → IsEngineAfter h old
+    → Ok applied ≡ answer_by old.grid h event (refusal_of old.grid h event) → IsEngineAfter (joined old.grid h event) new → new.grid ≡ old.grid
+    → map (λ d. d.0) new.judged.changed ≡ differences old.judged.opened new.judged.opened
+    → (front : List ℕ) (number : ℕ) (g : Parts) (j : Judgement) → front ≡ out → number ≡ line → g ≡ new.grid → j ≡ new.judged
+    → printed ≡ put_text front number g j applied
+    → printed ≡ out ++ entry old.grid line h (outcome_by event (refusal_of old.grid h event))
+applied_printed h event line old new applied out printed was answer is grid listed front number g j same_front same_number same_grid same_judged e =
+    let costs = applied_costs old.grid h event (refusal_of old.grid h event) applied answer in
+    let joins : joined old.grid h event ≡ event ∷ h = ap (joined_by h event) costs.0 in
+    let text : printed ≡ put_text out line old.grid new.judged applied =
+    e
+    ∙ ap (λ x. put_text x number g j applied) same_front
+    ∙ ap (λ x. put_text out x g j applied) same_number
+    ∙ ap (λ x. put_text out line x j applied) (same_grid ∙ grid)
+    ∙ ap (λ x. put_text out line old.grid x applied) same_judged in
+    changes_printed old.grid h (joined old.grid h event) line old new was is refl grid out printed applied.cost_before applied.cost_after listed costs.1 costs.2 text
+    ∙ ap (λ after. out ++ changes old.grid line h after) joins
+    ∙ ap (λ r. out ++ entry old.grid line h (outcome_by event r)) (sym costs.0)

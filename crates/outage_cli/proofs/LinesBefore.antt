@@ -11,14 +11,16 @@ use Rattle.outage_rules.specs.Network.{Cut}
 use Rattle.grid_model.specs.Parts.{Parts}
 use Rattle.grid_model.specs.Places.{no_device, device_at}
 use Rattle.grid_model.specs.Sound.{HasNames}
-use Rattle.event_rules.specs.declared.event_line.EventLine.{EventLine}
-use Rattle.event_rules.specs.declared.event_line.EventLine.TheVariants.{Skipped, Refused, Call}
-use Rattle.event_rules.specs.declared.event_line.EventRule.{EventRule}
-use Rattle.event_rules.specs.declared.event_line.EventRule.TheVariants.{NotBuilt, UnknownMeter}
+use Rattle.grid_model.specs.declared.history.Event.{Event}
+use Rattle.grid_model.specs.declared.history.Refusal.{Refusal}
+use Rattle.grid_model.specs.declared.history.Refusal.TheVariants.{Backwards, NotClosed, Loop}
+use Rattle.event_rules.specs.declared.read_rule.ReadRule.{ReadRule}
+use Rattle.event_rules.specs.declared.read_rule.ReadRule.TheVariants.{TooLong, BadFields, BadWord, BadTime, BadName, UnknownMeter, UnknownDevice}
 use Rattle.event_rules.specs.Lines.{lines}
-use Rattle.event_rules.specs.Calls.{least_of, diagnosis_of}
-use Rattle.event_rules.specs.EventText.{event_of}
-use Rattle.event_rules.specs.Output.{row, rule_word, calls_after, cost_row, change_rows, changes, entry, entries, calls_in, report, replay_text}
+use Rattle.event_rules.specs.Rows.{row}
+use Rattle.history_rules.specs.Posed.{least_after, diagnosis_after}
+use Rattle.history_rules.specs.Run.{LineRule, Unread, Unapplied, Outcome, Skips, Refuses, Applies, outcome_of, history_by, history_of}
+use Rattle.history_rules.specs.Output.{read_rule_word, refusal_word, rule_word, cost_row, change_rows, changes, entry, entries, report, replay_text}
 use Rattle.bound_table.specs.Report.{begins_bounds}
 use Rattle.bound_table.specs.Laws.{is_line_before, ended}
 use Rattle.bound_table.proofs.Commas.{are_words, words_no_lf}
@@ -79,9 +81,23 @@ decimal_word : (n : ℕ) → is_word (decimal n) ≡ true
 unfolding digits
 decimal_word n = digits_word 64 n [] refl
 
-rule_is_word : (rule : EventRule) → is_word (rule_word rule) ≡ true
-rule_is_word NotBuilt = refl
-rule_is_word UnknownMeter = refl
+read_rule_is_word : (rule : ReadRule) → is_word (read_rule_word rule) ≡ true
+read_rule_is_word TooLong = refl
+read_rule_is_word BadFields = refl
+read_rule_is_word BadWord = refl
+read_rule_is_word BadTime = refl
+read_rule_is_word BadName = refl
+read_rule_is_word UnknownMeter = refl
+read_rule_is_word UnknownDevice = refl
+
+refusal_is_word : (rule : Refusal) → is_word (refusal_word rule) ≡ true
+refusal_is_word Backwards = refl
+refusal_is_word NotClosed = refl
+refusal_is_word Loop = refl
+
+rule_is_word : (rule : LineRule) → is_word (rule_word rule) ≡ true
+rule_is_word (Unread rule) = read_rule_is_word rule
+rule_is_word (Unapplied rule) = refusal_is_word rule
 
 -- words, a number and words
 three_words : (a b c : List ℕ) → is_word a ≡ true → is_word b ≡ true → is_word c ≡ true → are_words (a ∷ b ∷ c ∷ []) ≡ true
@@ -111,37 +127,37 @@ module _ (g : Parts) (names : HasNames g) where
       (λ e. one_row words (three_words word (decimal line) (device_at g d).name h (decimal_word line) (name_word d)) (other (44 ∷ join_with_byte 44 (decimal line ∷ (device_at g d).name ∷ []))))
       (λ e. none))
 
-  changed_lines : (line : ℕ) (before after : List ℕ) → IsBefore (changes g line before after)
+  changed_lines : (line : ℕ) (before after : List Event) → IsBefore (changes g line before after)
   changed_lines line before after =
-      let leave = change_rows g (codes "leaves") line (diagnosis_of g before) (diagnosis_of g after) in
-      let enter = change_rows g (codes "enters") line (diagnosis_of g after) (diagnosis_of g before) in
-      both (leave ++ enter) (cost_row line (least_of g before) (least_of g after))
+      let leave = change_rows g (codes "leaves") line (diagnosis_after g before) (diagnosis_after g after) in
+      let enter = change_rows g (codes "enters") line (diagnosis_after g after) (diagnosis_after g before) in
+      both (leave ++ enter) (cost_row line (least_after g before) (least_after g after))
       (both leave enter
-      (change_lines (codes "leaves") line (diagnosis_of g before) (diagnosis_of g after) refl (λ rest. refl))
-      (change_lines (codes "enters") line (diagnosis_of g after) (diagnosis_of g before) refl (λ rest. refl)))
-      (cost_lines line (least_of g before) (least_of g after))
+      (change_lines (codes "leaves") line (diagnosis_after g before) (diagnosis_after g after) refl (λ rest. refl))
+      (change_lines (codes "enters") line (diagnosis_after g after) (diagnosis_after g before) refl (λ rest. refl)))
+      (cost_lines line (least_after g before) (least_after g after))
 
-  entry_lines : (line : ℕ) (calls : List ℕ) (event : EventLine) → IsBefore (entry g line calls event)
-  entry_lines line calls Skipped = none
-  entry_lines line calls (Refused rule) =
+  entry_lines : (line : ℕ) (h : List Event) (outcome : Outcome) → IsBefore (entry g line h outcome)
+  entry_lines line h Skips = none
+  entry_lines line h (Refuses rule) =
       one_row (codes "refused" ∷ decimal line ∷ rule_word rule ∷ []) (three_words (codes "refused") (decimal line) (rule_word rule) refl (decimal_word line) (rule_is_word rule)) refl
-  entry_lines line calls (Call m) = changed_lines line calls (m.0 ∷ calls)
+  entry_lines line h (Applies e) = changed_lines line h (e ∷ h)
 
-  entries_lines : (number : ℕ) (calls : List ℕ) (text : List (List ℕ)) → IsBefore (entries g number calls text)
+  entries_lines : (number : ℕ) (h : List Event) (text : List (List ℕ)) → IsBefore (entries g number h text)
   unfolding entries
-  entries_lines number calls [] = none
-  entries_lines number calls (line ∷ rest) =
-      let event = event_of g line in
-      both (entry g number calls event) (entries g (number + 1) (calls_after calls event) rest) (entry_lines number calls event) (entries_lines (number + 1) (calls_after calls event) rest)
+  entries_lines number h [] = none
+  entries_lines number h (line ∷ rest) =
+      let outcome = outcome_of g h line in
+      both (entry g number h outcome) (entries g (number + 1) (history_by h outcome) rest) (entry_lines number h outcome) (entries_lines (number + 1) (history_by h outcome) rest)
 
-  report_lines : (calls : List ℕ) → IsBefore (report g calls)
-  report_lines calls =
-      both (row (codes "total" ∷ decimal (least_of g calls) ∷ [])) (row (codes "end" ∷ []))
-      (one_row (codes "total" ∷ decimal (least_of g calls) ∷ []) (and_from (is_word (decimal (least_of g calls))) true (decimal_word (least_of g calls)) refl) refl)
+  report_lines : (h : List Event) → IsBefore (report g h)
+  report_lines h =
+      both (row (codes "total" ∷ decimal (least_after g h) ∷ [])) (row (codes "end" ∷ []))
+      (one_row (codes "total" ∷ decimal (least_after g h) ∷ []) (and_from (is_word (decimal (least_after g h))) true (decimal_word (least_after g h)) refl) refl)
       (one_row (codes "end" ∷ []) refl refl)
 
   -- all that a replay prints without its bounds
   pub replay_lines : (events : List ℕ) → IsBefore (replay_text g events)
   unfolding replay_text
   replay_lines events =
-      both (entries g 1 [] (lines events)) (report g (calls_in g [] (lines events))) (entries_lines 1 [] (lines events)) (report_lines (calls_in g [] (lines events)))
+      both (entries g 1 [] (lines events)) (report g (history_of g events)) (entries_lines 1 [] (lines events)) (report_lines (history_of g events))

@@ -1,35 +1,68 @@
 -- The bounds that a replay writes are read back and found valid.
-use Rattle.std.proofs.Common.{◌≡◌, ℕ, true, ap, ◌∙◌, List, [], ◌++◌}
+use Rattle.std.proofs.Common.{◌≡◌, ℕ, true, ap, refl, ◌∙◌, List, [], ◌++◌}
+use Rattle.outage_rules.specs.Network.{IsSound, IsRadial}
+use Rattle.outage_rules.specs.Agreement.{ReferenceTableIsExact}
+use Rattle.outage_rules.specs.TightLaws.{RowsAreBounded, LeastIsBounded, DistanceIsBounded}
 use Rattle.grid_model.specs.Parts.{Parts}
 use Rattle.grid_model.specs.Sound.{IsSoundParts}
+use Rattle.grid_model.specs.declared.history.Event.{Event}
 use Rattle.event_rules.specs.Lines.{lines}
-use Rattle.event_rules.specs.Calls.{problem_of}
-use Rattle.event_rules.specs.Output.{calls_in}
+use Rattle.history_rules.specs.Posed.{problem_after, IsHistory}
+use Rattle.history_rules.specs.Run.{history_of}
+use Rattle.history_rules.specs.Laws.{HistoryIsRadial, ProblemIsSound, RunIsHistory}
 use Rattle.bound_table.specs.Laws.{WrittenIsRead}
 use Rattle.bound_table.specs.Printed.{bounds_text}
 use Rattle.bound_table.specs.Report.{report_reading, IsRead}
+use Rattle.bound_table.specs.Sound.{IsTableOf}
 use Rattle.bound_table.specs.Tight.{tight_bounds}
 use Rattle.bound_checker.specs.Laws.{TightIsValid}
 use Rattle.bound_checker.specs.declared.rules.Verdict.TheVariants.{Valid}
 use Rattle.outage_cli.specs.Told.{last_problem, output, verdict_on}
 use Rattle.outage_cli.specs.RoundTrip.{IsFoundValid}
-use Rattle.outage_cli.proofs.OutputParts.{is_sound, is_radial, tight_of_network}
 use Rattle.outage_cli.proofs.LinesBefore.{replay_lines}
+use Rattle.outage_cli.proofs.TightTables.{tight_within}
+use Rattle.outage_cli.proofs.Weights.{is_light}
 
-module _ (g : Parts) (events : List ℕ) (fits : IsSoundParts g) where
-  read_back : WrittenIsRead → report_reading g (output g events true) ≡ IsRead (tight_bounds (last_problem g events))
-  unfolding output last_problem
-  read_back law =
-      let bounds = tight_bounds (problem_of g (calls_in g [] (lines events))) in
-      let text = replay_lines g fits.names events in
-      ap (λ xs. report_reading g (xs ++ bounds_text g bounds)) text.are
-      ∙ law g bounds text.before fits (tight_of_network g (calls_in g [] (lines events)) fits) text.may
+-- the laws that it stands on
+pub record Laws : Type 0 where
+  pub run : RunIsHistory
+  pub radial : HistoryIsRadial
+  pub sound : ProblemIsSound
+  pub exact : ReferenceTableIsExact
+  pub rows : RowsAreBounded
+  pub least : LeastIsBounded
+  pub distance : DistanceIsBounded
+  pub read : WrittenIsRead
+  pub valid : TightIsValid
 
-  is_valid : TightIsValid → verdict_on g events (tight_bounds (last_problem g events)) ≡ Valid
-  unfolding verdict_on last_problem problem_of
-  is_valid law =
-      let calls = calls_in g [] (lines events) in
-      law (problem_of g calls) (is_sound g calls fits) (is_radial g calls fits)
+module _ (laws : Laws) (g : Parts) (fits : IsSoundParts g) where
+  module _ (h : List Event) (history : IsHistory g h) where
+    is_sound : IsSound (problem_after g h)
+    is_sound = laws.sound g h fits history
 
-  pub found_valid : WrittenIsRead → TightIsValid → IsFoundValid g events (output g events true) (tight_bounds (last_problem g events))
-  found_valid reading checking = record { read = read_back reading; verdict = is_valid checking }
+    is_radial : IsRadial (problem_after g h).net
+    unfolding problem_after
+    is_radial = (laws.radial g h fits history).1
+
+    tight_of_network : IsTableOf g (tight_bounds (problem_after g h))
+    unfolding problem_after
+    tight_of_network = tight_within g (problem_after g h) refl refl fits.few_nodes is_sound is_radial (is_light g h fits) laws.exact laws.rows laws.least laws.distance
+
+  module _ (events : List ℕ) where
+    is_history : IsHistory g (history_of g events)
+    is_history = laws.run g [] (lines events) tt
+
+    read_back : report_reading g (output g events true) ≡ IsRead (tight_bounds (last_problem g events))
+    unfolding output last_problem
+    read_back =
+        let bounds = tight_bounds (problem_after g (history_of g events)) in
+        let text = replay_lines g fits.names events in
+        ap (λ xs. report_reading g (xs ++ bounds_text g bounds)) text.are
+        ∙ laws.read g bounds text.before fits (tight_of_network (history_of g events) is_history) text.may
+
+    is_valid : verdict_on g events (tight_bounds (last_problem g events)) ≡ Valid
+    unfolding verdict_on last_problem problem_after
+    is_valid = laws.valid (problem_after g (history_of g events)) (is_sound (history_of g events) is_history) (is_radial (history_of g events) is_history)
+
+    pub found_valid : IsFoundValid g events (output g events true) (tight_bounds (last_problem g events))
+    found_valid = record { read = read_back; verdict = is_valid }

@@ -5,7 +5,8 @@ use Rattle.std.specs.Option.{option_map}
 use Rattle.outage_rules.specs.Network.{Problem, Cut}
 use Rattle.outage_rules.specs.Certificate as certificate
 use Rattle.grid_model.specs.Parts.{Parts}
-use Rattle.event_rules.specs.Calls.{problem_of}
+use Rattle.grid_model.specs.declared.history.Event.{Event}
+use Rattle.history_rules.specs.Posed.{problem_after}
 use Rattle.bound_table.specs.Table.{Table}
 use Rattle.bound_checker.specs.Claimed.{table_of, cut_of}
 use Rattle.bound_checker.specs.Conditions.{is_not_closed, is_cut_though_ok, is_missing, is_bad_source, has_bad_parent, is_stray, is_live_above, is_dark_above, costs_otherwise, adds_up_otherwise}
@@ -15,7 +16,8 @@ use Rattle.bound_checker.specs.declared.rules.CheckRule.TheVariants.{NotClosed, 
 use Rattle.bound_checker.specs.declared.rules.Place.{Place}
 use Rattle.bound_checker.specs.declared.rules.Place.TheVariants.{Nowhere}
 use Rattle.bound_checker.specs.declared.rules.Verdict.{Verdict}
-use Rattle.outage_cli.specs.Told.{last_problem, verdict_on, IsPlaceOf, IsVerdictOf}
+use Rattle.outage_engine.specs.Engined.{Engined, IsEngineAfter, IsEngine}
+use Rattle.outage_cli.specs.Told.{IsPlaceOf, IsVerdictOf}
 
 -- the first number that passes is below the bound
 here_within : (found : Option ℕ) (passes : Bool) (n : ℕ) → IfSome found (λ k. k < n) → IfSome (or_here found passes n) (λ k. k < suc n)
@@ -66,9 +68,10 @@ module _ (g : Parts) where
         (else_placed CutCost _ _ (whole_placed (costs_otherwise p t cut c))
         (else_placed Total _ _ (whole_placed (adds_up_otherwise p t c)) tt)))))))))
 
--- the verdict on bounds names a place of the network
-pub told_placed : (g : Parts) (events : List ℕ) (b : Table) (v : Verdict) → v ≡ verdict_on g events b → IsVerdictOf g v
-unfolding verdict_on last_problem problem_of
-told_placed g events b v is =
-    subst (IsVerdictOf g) (sym is)
-    (verdict_placed g (last_problem g events) refl refl (table_of (length g.devices) b.rows) (cut_of b.cuts) b.cost)
+-- the verdict on bounds by an engine names a place of the network
+pub placed_by : (e : Engined) (b : Table) (v : Verdict) → IsEngine e →
+    ((h : List Event) → IsEngineAfter h e → v ≡ verdict_of (problem_after e.grid h) (table_of (length e.grid.devices) b.rows) (cut_of b.cuts) b.cost) → IsVerdictOf e.grid v
+unfolding problem_after
+placed_by e b v engine is =
+    subst (IsVerdictOf e.grid) (sym (is engine.0 engine.1))
+    (verdict_placed e.grid (problem_after e.grid engine.0) refl refl (table_of (length e.grid.devices) b.rows) (cut_of b.cuts) b.cost)

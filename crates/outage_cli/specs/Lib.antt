@@ -2,11 +2,11 @@ pub mod Form
 pub mod Places
 pub mod Whole
 pub mod Number
-pub mod StampMarks
-pub mod Told
 pub mod Files
+pub mod Told
+pub mod Reading
 pub mod Run
 pub mod RoundTrip
-pub mod Tallied
-pub mod Changes
-pub mod Bounding
+pub mod Entered
+pub mod Pieces
+pub mod Ended

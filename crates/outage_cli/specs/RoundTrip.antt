@@ -3,7 +3,7 @@ use Rattle.std.specs.Prelude.{◌≡◌, ◌⊎◌, ⊤, ℕ, true, List, [], �
 use Rattle.std.specs.Io.KnownBytes.{Appends}
 use Rattle.grid_model.specs.Parts.{Parts}
 use Rattle.grid_reader.specs.Text.{IsGrid, grid_text}
-use Rattle.event_rules.specs.Output.{row}
+use Rattle.event_rules.specs.Rows.{row}
 use Rattle.bound_table.specs.Table.{Table}
 use Rattle.bound_table.specs.Report.{report_reading, IsRead}
 use Rattle.bound_table.specs.Tight.{tight_bounds}
@@ -21,7 +21,7 @@ pub record IsFoundValid (g : Parts) (events report : List ℕ) (bounds : Table) 
   pub read : report_reading g report ≡ IsRead bounds
   pub verdict : verdict_on g events bounds ≡ Valid
 
--- what a replay writes with its bounds has the tight bounds of all calls, and they are found valid
+-- what a replay writes with its bounds has the tight bounds of all events, and they are found valid
 abbrev pub ReplayIsValid : Type 0
 ReplayIsValid = (text events : List ℕ) (g : Parts) → grid_text text ≡ IsGrid g →
     IsFoundValid g events (output g events true) (tight_bounds (last_problem g events))

@@ -3,7 +3,11 @@ use Rattle.std.specs.Prelude.{◌≡◌, ◌⊎◌, ⊤, ℕ, Bool, List, [], Op
 use Rattle.std.specs.Io.KnownBytes.{Appends}
 use Rattle.outage_rules.specs.Diagnosis.{IsDiagnosis, IsLeastCost}
 use Rattle.grid_model.specs.Parts.{Parts}
-use Rattle.event_rules.specs.Calls.{problem_of, least_of, diagnosis_of}
+use Rattle.grid_model.specs.declared.history.Event.{Event}
+use Rattle.event_rules.specs.Lines.{lines}
+use Rattle.history_rules.specs.Posed.{problem_after, least_after, diagnosis_after, IsHistory}
+use Rattle.history_rules.specs.Run.{ended_lines, history_of}
+use Rattle.history_rules.specs.Output.{entries}
 use Rattle.grid_reader.specs.declared.fault.GridRule.{GridRule}
 use Rattle.bound_table.specs.Table.{Table}
 use Rattle.bound_table.specs.declared.bounds.BoundRule.{BoundRule}
@@ -13,26 +17,38 @@ use Rattle.bound_checker.specs.declared.rules.Verdict.{Verdict}
 use Rattle.bound_checker.specs.declared.rules.Verdict.TheVariants as verdict
 use Rattle.outage_ports.specs.Bytes.{Files, AppendsPrefix}
 use Rattle.outage_cli.specs.Form.{Places, Command, Replay, Check}
-use Rattle.outage_cli.specs.Files.{most_network, most_events, most_report, IsTooLong, IsWithin, SaysNetwork, RefusesNetworkAt, SaysBounds, RefusesReportAt}
-use Rattle.outage_cli.specs.Told.{output, verdict_on, verdict_text}
+use Rattle.outage_cli.specs.Files.{most_network, most_report, IsTooLong, SaysNetwork, RefusesNetworkAt, HasEvents, HasTooManyLines, HasTooManyBytes, IsFrontOf, SaysBounds, RefusesReportAt}
+use Rattle.outage_cli.specs.Told.{output, entries_taken, text_due, verdict_on, verdict_text}
 use Rattle.outage_cli.specs.declared.status.Status.{Status}
-use Rattle.outage_cli.specs.declared.status.Status.TheVariants.{Done, Invalid, WriteFault, Memory, Limit, NetworkRefused, ReportRefused}
+use Rattle.outage_cli.specs.declared.status.Status.TheVariants.{Done, Invalid, Usage, WriteFault, Memory, Limit, NetworkRefused, ReportRefused}
 use Rattle.outage_cli.specs.declared.status.Which.{Which}
-use Rattle.outage_cli.specs.declared.status.Which.TheVariants.{NetworkBytes, EventBytes, ReportBytes}
+use Rattle.outage_cli.specs.declared.status.Which.TheVariants.{NetworkBytes, EventLines, EventBytes, ReportBytes}
 
--- the statuses after which nothing was written
-abbrev pub IsSilent : Status → Type 0
-IsSilent Done = ⊥
-IsSilent (Invalid rule) = ⊥
-IsSilent WriteFault = ⊥
-IsSilent status = ⊤
+-- the statuses of a replay after which nothing was written
+abbrev pub IsSilentReplay : Status → Type 0
+IsSilentReplay Usage = ⊤
+IsSilentReplay (NetworkRefused line rule) = ⊤
+IsSilentReplay (Limit NetworkBytes) = ⊤
+IsSilentReplay status = ⊥
+
+-- and those of a check
+abbrev pub IsSilentCheck : Status → Type 0
+IsSilentCheck Done = ⊥
+IsSilentCheck (Invalid rule) = ⊥
+IsSilentCheck WriteFault = ⊥
+IsSilentCheck status = ⊤
+
+abbrev pub IsSilent : Option Command → Status → Type 0
+IsSilent None status = ⊤
+IsSilent (Some (Replay places with_bounds)) status = IsSilentReplay status
+IsSilent (Some (Check places report)) status = IsSilentCheck status
 
 -- the files of a replay: a network, and events within their limit
 pub record CanReplay (files : Files) (places : Places) : Type 0 where
   pub parts : Parts
   pub events : List ℕ
   pub network : SaysNetwork files places.net parts
-  pub event_file : IsWithin files places.events most_events events
+  pub event_file : HasEvents files places.events events
 
 -- the files of a check: those of a replay, and a report with bounds, of which the local check says this
 pub record CanCheck (files : Files) (places : Places) (report : List ℕ) (verdict : Verdict) : Type 0 where
@@ -40,16 +56,16 @@ pub record CanCheck (files : Files) (places : Places) (report : List ℕ) (verdi
   pub events : List ℕ
   pub bounds : Table
   pub network : SaysNetwork files places.net parts
-  pub event_file : IsWithin files places.events most_events events
+  pub event_file : HasEvents files places.events events
   pub report_file : SaysBounds files report parts bounds
   pub verdict_is : verdict_on parts events bounds ≡ verdict
 
--- all files were read to their end, and exactly the defined text was written: after each call the set that the lines give is the diagnosis, and the cost is least
+-- all files were read to their end, and exactly the defined text was written: after each event the set that the lines give is the diagnosis, and the cost is least
 pub record Replays (files : Files) (left before now : Option (List ℕ)) (places : Places) (with_bounds : Bool) : Type 0 where
   pub can : CanReplay files places
   pub read : left ≡ Some []
-  pub diagnosis : (calls : List ℕ) → IsDiagnosis (problem_of can.parts calls) (diagnosis_of can.parts calls)
-  pub least : (calls : List ℕ) → IsLeastCost (problem_of can.parts calls) (least_of can.parts calls)
+  pub diagnosis : (h : List Event) → IsHistory can.parts h → IsDiagnosis (problem_after can.parts h) (diagnosis_after can.parts h)
+  pub least : (h : List Event) → IsHistory can.parts h → IsLeastCost (problem_after can.parts h) (least_after can.parts h)
   pub written : Appends before now (output can.parts can.events with_bounds)
 
 -- all files were read to their end, and exactly the verdict was written
@@ -77,10 +93,17 @@ IsInvalid None left before now command rule = ⊤
 IsInvalid (Some files) left before now None rule = ⊥
 IsInvalid (Some files) left before now (Some command) rule = Found files left before now command rule
 
--- a front part of the defined text was written
+-- the network is fine, and the events are there
+pub record CanBegin (files : Files) (places : Places) : Type 0 where
+  pub parts : Parts
+  pub bytes : List ℕ
+  pub network : SaysNetwork files places.net parts
+  pub are : files places.events ≡ Some bytes
+
+-- a front part of the text that is due was written
 pub record ReplaysPart (files : Files) (before now : Option (List ℕ)) (places : Places) (with_bounds : Bool) : Type 0 where
-  pub can : CanReplay files places
-  pub written : AppendsPrefix before now (output can.parts can.events with_bounds)
+  pub can : CanBegin files places
+  pub written : AppendsPrefix before now (text_due can.parts can.bytes with_bounds)
 
 pub record ChecksPart (files : Files) (before now : Option (List ℕ)) (places : Places) (report : List ℕ) : Type 0 where
   pub verdict : Verdict
@@ -95,6 +118,30 @@ abbrev pub IsPart : Option Files → Option (List ℕ) → Option (List ℕ) →
 IsPart None before now command = ⊤
 IsPart (Some files) before now None = ⊥
 IsPart (Some files) before now (Some command) = DidPart files before now command
+
+-- nothing was written, or a front part
+abbrev pub IsPartAtMost : Option Files → Option (List ℕ) → Option (List ℕ) → Option Command → Type 0
+IsPartAtMost None before now command = ⊤
+IsPartAtMost (Some files) before now None = now ≡ before
+IsPartAtMost (Some files) before now (Some command) = (now ≡ before) ⊎ DidPart files before now command
+
+-- a read of the events failed: the entries of the lines that had ended were written
+pub record StopsReplay (files : Files) (before now : Option (List ℕ)) (places : Places) : Type 0 where
+  pub parts : Parts
+  pub network : SaysNetwork files places.net parts
+  pub taken : List ℕ
+  pub front : IsFrontOf files places.events taken
+  pub written : Appends before now (entries parts 1 [] (ended_lines taken))
+
+-- what a failed read leaves written: nothing, or those entries
+abbrev pub Leaves : Files → Option (List ℕ) → Option (List ℕ) → Command → Type 0
+Leaves files before now (Replay places with_bounds) = (now ≡ before) ⊎ StopsReplay files before now places
+Leaves files before now (Check places report) = now ≡ before
+
+abbrev pub IsLeft : Option Files → Option (List ℕ) → Option (List ℕ) → Option Command → Type 0
+IsLeft None before now command = ⊤
+IsLeft (Some files) before now None = ⊥
+IsLeft (Some files) before now (Some command) = Leaves files before now command
 
 -- the files of the network and of the events
 abbrev pub places_in : Command → Places
@@ -122,10 +169,24 @@ abbrev pub HasLongReport : Files → Command → Type 0
 HasLongReport files (Replay places with_bounds) = ⊥
 HasLongReport files (Check places report) = CanReplay files places × IsTooLong files report most_report
 
--- which file is too long: the files stand in the order in which they are read
+-- the network is fine, and a limit of its events is met
+pub record MeetsLines (files : Files) (places : Places) : Type 0 where
+  pub parts : Parts
+  pub bytes : List ℕ
+  pub network : SaysNetwork files places.net parts
+  pub many : HasTooManyLines files places.events bytes
+
+pub record MeetsBytes (files : Files) (places : Places) : Type 0 where
+  pub parts : Parts
+  pub bytes : List ℕ
+  pub network : SaysNetwork files places.net parts
+  pub long : HasTooManyBytes files places.events bytes
+
+-- which limit is met: the files stand in the order in which they are read
 abbrev pub IsOver : Files → Command → Which → Type 0
 IsOver files command NetworkBytes = IsTooLong files (places_in command).net most_network
-IsOver files command EventBytes = ((parts : Parts) × SaysNetwork files (places_in command).net parts) × IsTooLong files (places_in command).events most_events
+IsOver files command EventLines = MeetsLines files (places_in command)
+IsOver files command EventBytes = MeetsBytes files (places_in command)
 IsOver files command ReportBytes = HasLongReport files command
 
 abbrev pub IsLimit : Option Files → Option Command → Which → Type 0
@@ -133,9 +194,25 @@ IsLimit None command which = ⊤
 IsLimit (Some files) None which = ⊥
 IsLimit (Some files) (Some command) which = IsOver files command which
 
--- where no read failed, a limit that is met and a text that is refused are answered so, unless memory ran out
+-- the entries of the lines that a replay takes were written
+pub record IsCutShort (files : Files) (before now : Option (List ℕ)) (places : Places) : Type 0 where
+  pub can : CanBegin files places
+  pub written : Appends before now (entries_taken can.parts can.bytes)
+
+-- what a limit of the events leaves written
+abbrev pub Cuts : Files → Option (List ℕ) → Option (List ℕ) → Command → Which → Type 0
+Cuts files before now (Replay places with_bounds) EventLines = IsCutShort files before now places
+Cuts files before now (Replay places with_bounds) EventBytes = IsCutShort files before now places
+Cuts files before now command which = now ≡ before
+
+abbrev pub IsCut : Option Files → Option (List ℕ) → Option (List ℕ) → Option Command → Which → Type 0
+IsCut None before now command which = ⊤
+IsCut (Some files) before now None which = ⊥
+IsCut (Some files) before now (Some command) which = Cuts files before now command which
+
+-- where no read failed, a limit that is met and a text that is refused are answered so, unless memory ran out, or a write failed before the limit
 pub record AnswersCauses (files : Files) (command : Command) (status : Status) : Type 0 where
-  pub over : (which : Which) → IsOver files command which → (status ≡ Limit which) ⊎ (status ≡ Memory)
+  pub over : (which : Which) → IsOver files command which → (status ≡ Limit which) ⊎ ((status ≡ Memory) ⊎ (status ≡ WriteFault))
   pub network : (line : ℕ) (rule : GridRule) → RefusesNetworkAt files (places_in command).net line rule → (status ≡ NetworkRefused line rule) ⊎ (status ≡ Memory)
   pub report : (line : ℕ) (rule : BoundRule) → RefusesReport files command line rule → (status ≡ ReportRefused line rule) ⊎ (status ≡ Memory)
 

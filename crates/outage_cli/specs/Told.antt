@@ -1,10 +1,11 @@
 -- What is written: the output of a replay, and the verdict of a check.
-use Rattle.std.specs.Prelude.{ℕ, Bool, List, [], ◌∷◌, ◌++◌, ◌<◌, length, if◌then◌else◌, codes, ⊤}
+use Rattle.std.specs.Prelude.{ℕ, Bool, List, [], ◌∷◌, ◌++◌, ◌<◌, ◌&&◌, nat_le, length, if◌then◌else◌, codes, ⊤}
 use Rattle.outage_rules.specs.Network.{Problem}
 use Rattle.grid_model.specs.Parts.{Parts}
-use Rattle.event_rules.specs.Lines.{lines}
-use Rattle.event_rules.specs.Calls.{problem_of}
-use Rattle.event_rules.specs.Output.{row, calls_in, replay_text}
+use Rattle.event_rules.specs.Rows.{row}
+use Rattle.history_rules.specs.Posed.{problem_after}
+use Rattle.history_rules.specs.Run.{counted, lines_within, history_of}
+use Rattle.history_rules.specs.Output.{entries, report, replay_text}
 use Rattle.bound_table.specs.Table.{Table}
 use Rattle.bound_table.specs.Printed.{device_name, node_name, bounds_text}
 use Rattle.bound_table.specs.Tight.{tight_bounds}
@@ -16,10 +17,11 @@ use Rattle.bound_checker.specs.declared.rules.Place.{Place}
 use Rattle.bound_checker.specs.declared.rules.Place.TheVariants.{Node, Device, Nowhere}
 use Rattle.bound_checker.specs.declared.rules.Verdict.{Verdict}
 use Rattle.bound_checker.specs.declared.rules.Verdict.TheVariants.{Valid, Invalid}
+use Rattle.outage_cli.specs.Files.{most_events, most_event_lines, lines_taken}
 
--- the problem that all calls of the events pose
+-- the problem that all events pose
 unfoldable pub last_problem : Parts → List ℕ → Problem
-last_problem g events = problem_of g (calls_in g [] (lines events))
+last_problem g events = problem_after g (history_of g events)
 
 -- the bounds part, where it is asked for
 abbrev pub bounds_part : Parts → List ℕ → Bool → List ℕ
@@ -28,6 +30,19 @@ bounds_part g events with_bounds = if with_bounds then bounds_text g (tight_boun
 -- all that a replay writes
 unfoldable pub output : Parts → List ℕ → Bool → List ℕ
 output g events with_bounds = replay_text g events ++ bounds_part g events with_bounds
+
+-- the events are within the limits of bytes and of lines
+abbrev pub is_within_limits : List ℕ → Bool
+is_within_limits bytes = nat_le (length bytes) most_events && nat_le (length (counted (lines_within most_events bytes))) most_event_lines
+
+-- the entries of the lines that a run takes
+unfoldable pub entries_taken : Parts → List ℕ → List ℕ
+entries_taken g bytes = entries g 1 [] (lines_taken bytes)
+
+-- all that a replay of these bytes is to write: the output, or the entries alone where a limit is met
+unfoldable pub text_due : Parts → List ℕ → Bool → List ℕ
+text_due g bytes with_bounds =
+    entries_taken g bytes ++ (if is_within_limits bytes then report g (history_of g bytes) ++ bounds_part g bytes with_bounds else [])
 
 -- the verdict of the local check on bounds
 unfoldable pub verdict_on : Parts → List ℕ → Table → Verdict

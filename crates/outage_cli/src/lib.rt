@@ -2,17 +2,19 @@
 //! status.
 #![tactic(auto)]
 
-mod bounds;
 mod check_run;
-mod event_line;
+mod engine_run;
+mod entries;
 mod main_call;
-mod replay;
+mod nowhere;
+mod reading;
 mod replay_run;
+mod report;
 mod round_trip;
-mod stamps;
+mod run;
 mod status;
-mod tally;
-mod told;
+mod taken;
+mod verdicts;
 mod whole;
 mod words;
 
@@ -22,3 +24,5 @@ pub use status::{Status, Which};
 
 #[cfg(test)]
 mod tests;
+#[cfg(test)]
+mod worked_runs;

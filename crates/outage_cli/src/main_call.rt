@@ -5,8 +5,10 @@ ghost use Rattle.bound_table.specs.declared.bounds.BoundRule.{BoundRule};
 ghost use Rattle.bound_checker.specs.declared.rules.CheckRule.{CheckRule};
 ghost use Rattle.grid_reader.specs.declared.fault.GridRule.{GridRule};
 ghost use Rattle.outage_cli.specs.declared.status.Which.{Which};
+ghost use Rattle.history_rules.specs.RunLaws.{LinesFollowRules};
+ghost use Rattle.history_rules.specs.Shown.{DiagnosisIsPrinted};
 ghost use Rattle.outage_cli.specs.Form.{command_of, Allows};
-ghost use Rattle.outage_cli.specs.Run.{IsSilent, IsDone, IsInvalid, IsRefused, IsReportRefused, IsLimit, IsPart, IsComplete, IsDue};
+ghost use Rattle.outage_cli.specs.Run.{IsSilent, IsDone, IsInvalid, IsRefused, IsReportRefused, IsLimit, IsLeft, IsCut, IsPart, IsPartAtMost, IsComplete, IsDue};
 ghost use Rattle.outage_cli.specs.RoundTrip.{IsOwnConfirmed};
 
 use crate::Status;
@@ -14,15 +16,17 @@ use crate::check_run::run_check;
 use crate::replay_run::run_replay;
 use crate::round_trip::replay_is_valid;
 use crate::words::{Command, read_words};
+use history_rules::{diagnosis_is_printed, lines_follow_rules};
 use outage_ports::{Shelf, Sink};
 use std::alloc::Global;
 
-/// Does all that the program does: `replay NET EVENTS` reads both files whole and writes what the
-/// events change, with `--bounds` also the table that shows the least cost; `check NET EVENTS
-/// REPORT` writes whether the table of a report shows it.
+/// Does all that the program does: `replay NET EVENTS` reads the network whole and the events in
+/// pieces and writes what each event changes, with `--bounds` also the table that shows the least
+/// cost; `check NET EVENTS REPORT` writes whether the table of a report shows it.
 ///
 /// The words are the program's name, which isn't read, and the command's. What is said of the
 /// bytes holds where the shelf, or the sink, tells them.
+#[tactic(auto, using(crate::proofs::Clauses::end_done, crate::proofs::Clauses::end_invalid, crate::proofs::Clauses::end_refused, crate::proofs::Clauses::end_report, crate::proofs::Clauses::end_limit, crate::proofs::Clauses::end_cut, crate::proofs::Clauses::end_left, crate::proofs::Clauses::end_part, crate::proofs::Clauses::end_memory))]
 pub fn outage_main<S: Shelf, K: Sink>(
     alloc: Global,
     words: &[String],
@@ -46,8 +50,11 @@ pub fn outage_main<S: Shelf, K: Sink>(
     ensures refused { (line : ℕ) (rule : GridRule) → result ≡ Status.NetworkRefused line rule → IsRefused (S.files shelf.old) (command_of (map string_bytes words.now)) line rule }
     ensures report { (line : ℕ) (rule : BoundRule) → result ≡ Status.ReportRefused line rule → IsReportRefused (S.files shelf.old) (command_of (map string_bytes words.now)) line rule }
     ensures limit { (which : Which) → result ≡ Status.Limit which → IsLimit (S.files shelf.old) (command_of (map string_bytes words.now)) which }
-    ensures idle { IsSilent result → out.new ≡ out.old }
+    ensures idle { IsSilent (command_of (map string_bytes words.now)) result → out.new ≡ out.old }
+    ensures left { result ≡ Status.ReadFault → IsLeft (S.files shelf.old) (K.written out.old) (K.written out.new) (command_of (map string_bytes words.now)) }
+    ensures cut { (which : Which) → result ≡ Status.Limit which → IsCut (S.files shelf.old) (K.written out.old) (K.written out.new) (command_of (map string_bytes words.now)) which }
     ensures part { result ≡ Status.WriteFault → IsPart (S.files shelf.old) (K.written out.old) (K.written out.new) (command_of (map string_bytes words.now)) }
+    ensures memory { result ≡ Status.Memory → IsPartAtMost (S.files shelf.old) (K.written out.old) (K.written out.new) (command_of (map string_bytes words.now)) }
     ensures complete { (Rose (S.faults shelf.old) (S.faults shelf.new) → ⊥) → (Rose (K.faults out.old) (K.faults out.new) → ⊥)
         → IsComplete (S.files shelf.old) (command_of (map string_bytes words.now)) result }
     ensures due { (Rose (S.faults shelf.old) (S.faults shelf.new) → ⊥) → IsDue (S.files shelf.old) (command_of (map string_bytes words.now)) result }
@@ -55,8 +62,16 @@ pub fn outage_main<S: Shelf, K: Sink>(
     // What a replay wrote with its bounds is found valid, by the same network and events.
     ensures own_report { (Rose (S.faults shelf.old) (S.faults shelf.new) → ⊥) → (Rose (K.faults out.old) (K.faults out.new) → ⊥)
         → IsOwnConfirmed (S.files shelf.old) (K.written out.old) (K.written out.new) (command_of (map string_bytes words.now)) result }
+
+    // Each line is skipped, or refused by the first rule that fits, or applied; a well-formed timely
+    // order is refused exactly where it would close a loop or names no device. And whoever reads the
+    // entries line by line knows the diagnosis.
+    ensures rules { LinesFollowRules }
+    ensures printed { DiagnosisIsPrinted }
 {
     replay_is_valid();
+    lines_follow_rules();
+    diagnosis_is_printed();
     match read_words(words) {
         Some(Command::Replay(places, with_bounds)) => {
             run_replay(alloc, places, with_bounds, shelf, out)

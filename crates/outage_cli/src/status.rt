@@ -13,6 +13,9 @@ pub enum Which {
     /// The network has more bytes than may be read.
     #[error("NetworkBytes")]
     NetworkBytes,
+    /// The events have a line more than may count, of those that aren't skipped.
+    #[error("EventLines")]
+    EventLines,
     /// The events have more bytes than may be read.
     #[error("EventBytes")]
     EventBytes,

@@ -1,4 +1,6 @@
 //! Worked runs over files and an output in memory.
+ghost use Rattle.std.specs.Prelude.{◌≤◌};
+
 use crate::{Status, outage_main};
 use bound_checker::CheckRule;
 use bound_table::BoundRule;
@@ -8,26 +10,23 @@ use std::alloc::{AllocError, Global};
 use std::process::Abort;
 use std::test::Fail;
 
-const NET: &str = "source,S\ndevice,B1,breaker,S,A,closed,-\ndevice,F1,fuse,A,C,closed,-\n\
+pub(crate) const NET: &str =
+    "source,S\ndevice,B1,breaker,S,A,closed,-\ndevice,F1,fuse,A,C,closed,-\n\
 device,T1,transformer,A,D,closed,-\ndevice,T2,transformer,A,E,closed,-\n\
 meter,M1,C,10\nmeter,M2,C,20\nmeter,M3,D,5\nmeter,M4,E,5\n";
 
 const CALLS: &str = "2024-03-01T10:00:00Z,call,M1\n2024-03-01T10:01:00Z,call,M2\n";
 
-// A network, its events, and what a replay of them answers and writes.
+// A network, its events, and what a replay of them writes.
 #[derive(Drop)]
-struct Case {
-    net: &'static str,
-    events: &'static str,
-    status: Status,
-    written: &'static str,
+pub(crate) struct Case {
+    pub(crate) net: &'static str,
+    pub(crate) events: &'static str,
+    pub(crate) written: &'static str,
 }
 
-fn file(alloc: Global, name: &str, text: &str) -> Result<(String, Vec<u8>), AllocError> {
-    Ok((
-        String::from_str(alloc, name)?,
-        text.as_bytes().to_vec(alloc)?,
-    ))
+fn file(alloc: Global, name: &str, text: &[u8]) -> Result<(String, Vec<u8>), AllocError> {
+    Ok((String::from_str(alloc, name)?, text.to_vec(alloc)?))
 }
 
 fn words(alloc: Global, texts: &[&str]) -> Result<Vec<String>, AllocError> {
@@ -38,110 +37,140 @@ fn words(alloc: Global, texts: &[&str]) -> Result<Vec<String>, AllocError> {
     Ok(all)
 }
 
-fn shelf(alloc: Global, net: &str, events: &str) -> Result<MemoryShelf, AllocError> {
+fn shelf(
+    alloc: Global,
+    net: &str,
+    events: &[u8],
+    mishaps: Vec<Mishap>,
+    piece: usize,
+) -> Result<MemoryShelf, AllocError>
+    requires { 1 ≤ piece }
+{
     let mut files = Vec::new(alloc);
-    files.push(file(alloc, "n", net)?)?;
+    files.push(file(alloc, "n", net.as_bytes())?)?;
     files.push(file(alloc, "e", events)?)?;
-    Ok(MemoryShelf::new(files, Vec::new(alloc), 5))
+    Ok(MemoryShelf::new(files, mishaps, piece))
 }
 
-fn run_case(rt: &impl Abort, alloc: Global, case: &Case) -> Result<(), AllocError> {
-    let mut files = shelf(alloc, case.net, case.events)?;
-    let mut out = MemorySink::new(alloc, Vec::new(alloc), 7, 200)?;
+// Compares what a replay of a network and events writes, where the shelf gives so many bytes at most.
+pub(crate) fn run_by_pieces(
+    rt: &impl Abort,
+    alloc: Global,
+    net: &str,
+    events: &[u8],
+    piece: usize,
+    written: &str,
+) -> Result<(), AllocError>
+    requires { 1 ≤ piece }
+{
+    let mut files = shelf(alloc, net, events, Vec::new(alloc), piece)?;
+    let mut out = MemorySink::new(alloc, Vec::new(alloc), 7, 400)?;
     let given = words(alloc, &["outage", "replay", "n", "e"])?;
     let status = outage_main(alloc, &given, &mut files, &mut out);
-    assert_eq!(rt; status, case.status);
-    assert_eq!(rt; out.bytes(), case.written.as_bytes());
+    assert!(rt; status == Status::Done);
+    assert_eq!(rt; out.bytes(), written.as_bytes());
+    Ok(())
+}
+
+pub(crate) fn run_cases(rt: &impl Abort, alloc: Global, cases: &[Case]) -> Result<(), AllocError> {
+    for case in cases {
+        run_by_pieces(rt, alloc, case.net, case.events.as_bytes(), 5, case.written)?;
+    }
     Ok(())
 }
 
 #[test]
 fn replays(rt: HostRuntime) -> Result<(), Fail> {
-    let alloc = rt.alloc();
     let cases = [
         Case {
             net: NET,
             events: CALLS,
-            status: Status::Done,
             written: "cost,1,30\nenters,2,F1\ncost,2,40\ntotal,40\nend\n",
         },
         Case {
             net: NET,
-            events: "2024-03-01T10:00:00Z,gasp,M1\n",
-            status: Status::Done,
-            written: "refused,1,NotBuilt\ntotal,0\nend\n",
-        },
-        Case {
-            net: NET,
-            events: "2024-03-01T10:00:00Z,call,M9\n",
-            status: Status::Done,
-            written: "refused,1,UnknownMeter\ntotal,0\nend\n",
+            events: "",
+            written: "total,0\nend\n",
         },
     ];
-    for case in &cases {
-        run_case(&rt, alloc, case)?;
-    }
+    run_cases(&rt, rt.alloc(), &cases)?;
     Ok(())
 }
-
-// The worked network with a tenth line.
-const TIED: &str = "source,S\ndevice,B1,breaker,S,A,closed,-\ndevice,F1,fuse,A,C,closed,-\n\
-device,T1,transformer,A,D,closed,-\ndevice,T2,transformer,A,E,closed,-\n\
-meter,M1,C,10\nmeter,M2,C,20\nmeter,M3,D,5\nmeter,M4,E,5\nset,call,40\n";
 
 const LOOPED: &str = "source,S\ndevice,B1,breaker,S,A,closed,-\ndevice,F1,fuse,A,C,closed,-\n\
 device,T1,transformer,A,D,closed,-\ndevice,T2,transformer,A,E,closed,-\n\
 meter,M1,C,10\nmeter,M2,C,20\nmeter,M3,D,5\nmeter,M4,E,5\ndevice,X1,tie,C,D,closed,-\n";
 
-// A source with a breaker, and two parts that nothing feeds.
-const UNFED: &str = "source,S\ndevice,B1,breaker,S,A,closed,-\ndevice,L1,line,P,Q,closed,-\n\
-device,L2,line,Q,U,closed,-\ndevice,X1,tie,P,U,open,-\ndevice,L3,line,V,W,closed,-\n\
-device,X2,tie,U,V,open,-\nmeter,M1,P,10\nmeter,M2,V,5\n";
+// Compares what a replay of the worked run answers and writes over a failing shelf and sink.
+fn run_failing(
+    rt: &impl Abort,
+    alloc: Global,
+    net: &str,
+    mishaps: Vec<Mishap>,
+    failing: Vec<u64>,
+    want: Status,
+    written: &str,
+) -> Result<(), AllocError> {
+    let mut files = shelf(alloc, net, CALLS.as_bytes(), mishaps, 1)?;
+    let mut out = MemorySink::new(alloc, failing, 1, 200)?;
+    let given = words(alloc, &["outage", "replay", "n", "e"])?;
+    let status = outage_main(alloc, &given, &mut files, &mut out);
+    assert!(rt; status == want);
+    assert_eq!(rt; out.bytes(), written.as_bytes());
+    Ok(())
+}
 
 #[test]
-fn reads_networks(rt: HostRuntime) -> Result<(), Fail> {
+fn refuses_a_network(rt: HostRuntime) -> Result<(), Fail> {
     let alloc = rt.alloc();
-    let refused = Status::NetworkRefused {
-        line: 10,
-        rule: GridRule::Loop,
-    };
-    let cases = [
-        Case {
-            net: TIED,
-            events: "2024-03-01T10:00:00Z,call,M1\n",
-            status: Status::Done,
-            written: "cost,1,40\ntotal,40\nend\n",
-        },
-        Case {
-            net: LOOPED,
-            events: CALLS,
-            status: refused,
-            written: "",
-        },
-        Case {
-            net: UNFED,
-            events: CALLS,
-            status: Status::Done,
-            written: "total,0\nend\n",
-        },
-    ];
-    for case in &cases {
-        run_case(&rt, alloc, case)?;
-    }
+    let rule = GridRule::Loop;
+    let refused = Status::NetworkRefused { line: 10, rule };
+    run_failing(
+        &rt,
+        alloc,
+        LOOPED,
+        Vec::new(alloc),
+        Vec::new(alloc),
+        refused,
+        "",
+    )?;
     Ok(())
 }
 
 #[test]
 fn fails_to_write(rt: HostRuntime) -> Result<(), Fail> {
     let alloc = rt.alloc();
-    let mut files = shelf(alloc, NET, CALLS)?;
     let mut failing = Vec::new(alloc);
     failing.push(2u64)?;
-    let mut out = MemorySink::new(alloc, failing, 1, 200)?;
-    let given = words(alloc, &["outage", "replay", "n", "e"])?;
-    let status = outage_main(alloc, &given, &mut files, &mut out);
-    assert_eq!(rt; status, Status::WriteFault);
-    assert_eq!(rt; out.bytes(), b"co".as_slice());
+    run_failing(
+        &rt,
+        alloc,
+        NET,
+        Vec::new(alloc),
+        failing,
+        Status::WriteFault,
+        "co",
+    )?;
+    Ok(())
+}
+
+#[test]
+fn read_fails_midway(rt: HostRuntime) -> Result<(), Fail> {
+    let alloc = rt.alloc();
+    let mut mishaps = Vec::new(alloc);
+    mishaps.push(Mishap {
+        name: String::from_str(alloc, "e")?,
+        at: Some(29),
+    })?;
+    run_failing(
+        &rt,
+        alloc,
+        NET,
+        mishaps,
+        Vec::new(alloc),
+        Status::ReadFault,
+        "cost,1,30\n",
+    )?;
     Ok(())
 }
 
@@ -152,7 +181,7 @@ fn run_idle(
     texts: &[&str],
     want: Status,
 ) -> Result<(), AllocError> {
-    let mut files = shelf(alloc, NET, CALLS)?;
+    let mut files = shelf(alloc, NET, CALLS.as_bytes(), Vec::new(alloc), 5)?;
     let mut out = MemorySink::new(alloc, Vec::new(alloc), 7, 200)?;
     let given = words(alloc, texts)?;
     let status = outage_main(alloc, &given, &mut files, &mut out);
@@ -182,26 +211,6 @@ fn writes_nothing(rt: HostRuntime) -> Result<(), Fail> {
     Ok(())
 }
 
-#[test]
-fn read_fails_midway(rt: HostRuntime) -> Result<(), Fail> {
-    let alloc = rt.alloc();
-    let mut files = Vec::new(alloc);
-    files.push(file(alloc, "n", NET)?)?;
-    files.push(file(alloc, "e", CALLS)?)?;
-    let mut mishaps = Vec::new(alloc);
-    mishaps.push(Mishap {
-        name: String::from_str(alloc, "e")?,
-        at: Some(29),
-    })?;
-    let mut failing = MemoryShelf::new(files, mishaps, 1);
-    let mut out = MemorySink::new(alloc, Vec::new(alloc), 7, 200)?;
-    let given = words(alloc, &["outage", "replay", "n", "e"])?;
-    let status = outage_main(alloc, &given, &mut failing, &mut out);
-    assert_eq!(rt; status, Status::ReadFault);
-    assert_eq!(rt; out.bytes(), b"".as_slice());
-    Ok(())
-}
-
 // The report of the worked run: its entries, and its bounds part with these lines.
 const ENTRIES: &str = "cost,1,30\nenters,2,F1\ncost,2,40\ntotal,40\nend\n";
 
@@ -215,32 +224,45 @@ fn report(alloc: Global, bounds: &str) -> Result<String, AllocError> {
     Ok(text)
 }
 
-#[test]
-fn prints_bounds(rt: HostRuntime) -> Result<(), Fail> {
-    let alloc = rt.alloc();
-    let mut files = shelf(alloc, NET, CALLS)?;
+// Compares what a replay with its bounds part writes.
+pub(crate) fn run_with_bounds(
+    rt: &impl Abort,
+    alloc: Global,
+    net: &str,
+    events: &str,
+    written: &str,
+) -> Result<(), AllocError> {
+    let mut files = shelf(alloc, net, events.as_bytes(), Vec::new(alloc), 5)?;
     let mut out = MemorySink::new(alloc, Vec::new(alloc), 7, 400)?;
     let given = words(alloc, &["outage", "replay", "n", "e", "--bounds"])?;
     let status = outage_main(alloc, &given, &mut files, &mut out);
     assert!(rt; status == Status::Done);
-    let want = report(alloc, BOUNDS)?;
-    assert!(rt; out.bytes() == want.as_bytes());
+    assert!(rt; out.bytes() == written.as_bytes());
     Ok(())
 }
 
-// What a check of a report with this bounds part answers and writes.
-fn check_case(
+#[test]
+fn prints_bounds(rt: HostRuntime) -> Result<(), Fail> {
+    let alloc = rt.alloc();
+    let want = report(alloc, BOUNDS)?;
+    run_with_bounds(&rt, alloc, NET, CALLS, want.as_str())?;
+    Ok(())
+}
+
+// Compares what a check of a report answers and writes.
+pub(crate) fn check_report(
     rt: &impl Abort,
     alloc: Global,
-    bounds: &str,
+    net: &str,
+    events: &str,
+    report: &str,
     want: Status,
     written: &str,
 ) -> Result<(), AllocError> {
     let mut files = Vec::new(alloc);
-    files.push(file(alloc, "n", NET)?)?;
-    files.push(file(alloc, "e", CALLS)?)?;
-    let text = report(alloc, bounds)?;
-    files.push(file(alloc, "r", text.as_str())?)?;
+    files.push(file(alloc, "n", net.as_bytes())?)?;
+    files.push(file(alloc, "e", events.as_bytes())?)?;
+    files.push(file(alloc, "r", report.as_bytes())?)?;
     let mut given_files = MemoryShelf::new(files, Vec::new(alloc), 5);
     let mut out = MemorySink::new(alloc, Vec::new(alloc), 7, 400)?;
     let given = words(alloc, &["outage", "check", "n", "e", "r"])?;
@@ -248,6 +270,18 @@ fn check_case(
     assert!(rt; status == want);
     assert!(rt; out.bytes() == written.as_bytes());
     Ok(())
+}
+
+// The same of the worked run's report with another bounds part.
+fn check_case(
+    rt: &impl Abort,
+    alloc: Global,
+    bounds: &str,
+    want: Status,
+    written: &str,
+) -> Result<(), AllocError> {
+    let text = report(alloc, bounds)?;
+    check_report(rt, alloc, NET, CALLS, text.as_str(), want, written)
 }
 
 fn invalid(rule: CheckRule) -> Status {

@@ -20,7 +20,7 @@ const PIECE: usize = 4096;
 pub const MOST_NETWORK: usize = 67_108_864;
 
 /// The greatest number of bytes of the events.
-pub const MOST_EVENTS: usize = 1_048_576;
+pub const MOST_EVENTS: usize = 1_073_741_824;
 
 /// The greatest number of bytes of a report.
 pub const MOST_REPORT: usize = 268_435_456;

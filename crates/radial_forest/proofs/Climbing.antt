@@ -107,12 +107,15 @@ module _ (g : Network) (t : Traversed) (roots : List NodeId) (sound : IsSoundNet
             jm.ends)
             jn.ends
 
+    -- a walk without it leads from the node above to the root
+    up_to_root : Path g (only d) (upper g (table_of t) n) (root_in roots (upper g (table_of t) n))
+    up_to_root = climb (only d) ((table_of t).depth (upper g (table_of t) n)) (upper g (table_of t) n) refl (up_within n l hung) hangs_none
+
     -- a walk without the device would close a loop with it
     is_needed : IsRadial g → (k : ℕ) → Walk g (only d) k n (root_in roots n) → ⊥
     is_needed radial k w =
         let j = subst (λ x. Joins g nothing x n (other_end g x n)) is_d (joins_up n l hung) in
-        let up = climb (only d) ((table_of t).depth (upper g (table_of t) n)) (upper g (table_of t) n) refl (up_within n l hung) hangs_none in
-        let down = back g (only d) up.0 (upper g (table_of t) n) (root_in roots (upper g (table_of t) n)) up.1 in
+        let down = back g (only d) up_to_root.0 (upper g (table_of t) n) (root_in roots (upper g (table_of t) n)) up_to_root.1 in
         let p : Path g (only d) n (other_end g d n) =
         subst (Path g (only d) n) up_is (then_to g (only d) n (root_in roots n) (upper g (table_of t) n) (k, w) (subst (λ v. Path g (only d) v (upper g (table_of t) n)) (sym ((rooted n l).below hung)) down)) in
         let q = back g (only d) p.0 n (other_end g d n) p.1 in
@@ -130,6 +133,7 @@ module _ (g : Network) (t : Traversed) (roots : List NodeId) (sound : IsSoundNet
           ends = subst (λ x. (g.from x ≡ n) ⊎ (g.to x ≡ n)) is_d p.ends;
           same_root = sym ((rooted n l).below hung ∙ ap (root_in roots) up_is);
           needed = is_needed radial;
+          upper = subst (λ v. Path g (only d) v (root_in roots n)) up_is (subst (Path g (only d) (upper g (table_of t) n)) (sym ((rooted n l).below hung)) up_to_root);
         }
 
   module _ (parents : AreParents g t g.devices) where
@@ -175,4 +179,5 @@ module _ (g : Network) (t : Traversed) (roots : List NodeId) (sound : IsSoundNet
         λ e. none_from (parent_in t.parents n) (sym (ap (hangs t) e) ∙ (root_top ((table_of t).depth n) n refl l).1),
       );
       parent = λ n d l e. is_parent n d.0 l (ap is_some e) (ap number_of_device e) radial;
+      closed = parents;
     }

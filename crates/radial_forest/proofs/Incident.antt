@@ -39,10 +39,10 @@ among p (suc n) d l e =
     (cases_lt d n))
 
 module _ (g : Parts) (n : ℕ) (xs : List DeviceId) (listed : map (λ d. d.0) xs ≡ devices_at g n) where
-  at_is : (j : ℕ) → number_at xs j ≡ get_or (devices_at g n) j 0
+  pub at_is : (j : ℕ) → number_at xs j ≡ get_or (devices_at g n) j 0
   at_is j = sym (get_or-map (λ d. d.0) xs j no_device) ∙ ap (λ ys. get_or ys j 0) listed
 
-  long : length xs ≡ length (devices_at g n)
+  pub long : length xs ≡ length (devices_at g n)
   long = sym (length-map xs (λ d. d.0)) ∙ ap length listed
 
   pub at_within : (j : ℕ) → j < length xs → number_at xs j < length g.devices

@@ -13,3 +13,6 @@ pub mod Rooted
 pub mod Climbing
 pub mod Looping
 pub mod Own
+pub mod Fitting
+pub mod LowerSide
+pub mod ListingSteps

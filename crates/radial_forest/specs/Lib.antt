@@ -4,3 +4,4 @@ pub mod TraversedInside
 pub mod Forested
 pub mod ForestedInside
 pub mod Rooting
+pub mod Lower

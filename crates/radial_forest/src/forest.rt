@@ -51,12 +51,14 @@ fn fill_roots(grid: &Grid, traversal: &Traversal, roots: &mut [NodeId])
 }
 
 impl Forest {
-    ghost use Rattle.std.specs.Prelude.{◌≡◌, ◌<◌, length, false, IfOk, slice_index_or, slice_set};
-    ghost use Rattle.outage_rules.specs.Network.{IsRadial, nothing, is_live};
+    ghost use Rattle.std.specs.Prelude.{◌≡◌, ◌≢◌, ◌<◌, ◌≤◌, ◌+◌, ◌↔◌, ℕ, Some, length, false, true, IsTrue, IfOk, slice_index_or, slice_set};
+    ghost use Rattle.outage_rules.specs.Network.{IsRadial, only, nothing, is_live};
     ghost use Rattle.outage_rules.specs.Loops.{would_loop};
     ghost use Rattle.grid_model.specs.Network.{network_in};
-    ghost use Rattle.radial_forest.specs.Traversed.{parent_in};
+    ghost use Rattle.radial_forest.specs.Traversed.{parent_in, node_at};
     ghost use Rattle.radial_forest.specs.Forested.{root_in, IsForestOf};
+    ghost use Rattle.radial_forest.specs.Spreading.{switched};
+    ghost use Rattle.radial_forest.specs.Lower.{IsAmong, IsCutOff, IsListing};
 
     /// The forest of a network where the flagged devices are closed: one flag a device. An error says
     /// that memory ran out.
@@ -81,6 +83,13 @@ impl Forest {
         ensures { result ≡ slice_index_or self.now.closed d.0 false }
     {
         self.closed[d.0 as usize]
+    }
+
+    /// Whether each device is closed, by number.
+    pub fn closed(&self) -> &[bool]
+        ensures { result.now ≡ self.now.closed }
+    {
+        &self.closed
     }
 
     /// The device on the walk from a node to its root: none exactly at a root.
@@ -131,6 +140,81 @@ impl Forest {
     {
         self.closed[d.0 as usize] = closed;
         self.grow(grid);
+    }
+
+    /// Writes the nodes on the lower side of a closed device, each once, to the front of `into`, which
+    /// has room for all nodes, and answers how many they are: those that opening the device cuts off
+    /// from their root, which are dark then if they were fed. Takes no memory.
+    pub fn walk_below(&self, grid: &Grid, d: DeviceId, into: &mut [NodeId]) -> usize
+        requires of_grid { IsForestOf grid.now self.now.closed self.now }
+        requires device { d.0 < length grid.now.devices }
+        requires closed { slice_index_or self.now.closed d.0 false ≡ true }
+        requires room { length into.old ≡ length grid.now.nodes }
+        ensures count { result ≤ length into.new }
+        ensures length { length into.new ≡ length into.old }
+        ensures nodes { (k : ℕ) → k < result → node_at into.new k < length grid.now.nodes }
+        ensures once { (j k : ℕ) → j < k → k < result → node_at into.new j ≢ node_at into.new k }
+        ensures lower { (n : ℕ) → n < length grid.now.nodes → IsAmong n into.new result
+            ↔ IsCutOff (network_in grid.now (λ e. slice_index_or self.now.closed e false)) self.now.roots d.0 n }
+        ensures below { (n : ℕ) → n < length grid.now.nodes
+            → is_live (network_in grid.now (λ e. slice_index_or self.now.closed e false)) nothing n ≡ true
+            → IsAmong n into.new result
+            ↔ (is_live (network_in grid.now (λ e. slice_index_or self.now.closed e false)) (only d.0) n ≡ false) }
+    {
+        live_is_a_walk();
+        into[0] = self.lower_end(grid, d);
+        let mut place = 0;
+        let mut below = 1;
+        while place < below {
+            below = self.list_below(grid, place, below, into);
+            place += 1;
+        }
+        below
+    }
+
+    // Whether a device leads from a node to its root.
+    fn hangs_by(&self, n: NodeId, d: DeviceId) -> bool
+        requires { n.0 < length self.now.roots }
+        ensures { IsTrue result ↔ (parent_in self.now.parents n.0 ≡ Some d) }
+    {
+        self.parent(n) == Some(d)
+    }
+
+    // The end of a closed device that hangs by it from the other one.
+    fn lower_end(&self, grid: &Grid, d: DeviceId) -> NodeId
+        requires of_grid { IsForestOf grid.now self.now.closed self.now }
+        requires device { d.0 < length grid.now.devices }
+        requires closed { slice_index_or self.now.closed d.0 false ≡ true }
+        ensures node { result.0 < length grid.now.nodes }
+        ensures hangs { parent_in self.now.parents result.0 ≡ Some d }
+    {
+        let (from, to) = grid.ends(d);
+        if self.hangs_by(from, d) { from } else { to }
+    }
+
+    // Lists what hangs from the node at a place of a list behind the nodes that are listed, and
+    // answers how many they are then.
+    fn list_below(&self, grid: &Grid, place: usize, count: usize, into: &mut [NodeId]) -> usize
+        requires of_grid { IsForestOf grid.now self.now.closed self.now }
+        requires room { length into.old ≡ length grid.now.nodes }
+        requires place { place < count }
+        requires count { count ≤ length into.old }
+        requires listing { (d : ℕ) × IsListing (switched grid.now self.now.closed) self.now d into.old count place }
+        ensures count { result ≤ length into.new }
+        ensures length { length into.new ≡ length into.old }
+        ensures listing { (d : ℕ) → IsListing (switched grid.now self.now.closed) self.now d into.old count place
+            → IsListing (switched grid.now self.now.closed) self.now d into.new result (place + 1) }
+    {
+        let n = into[place];
+        let mut listed = count;
+        for e in grid.incident(n) {
+            let m = other_end(grid, *e, n);
+            if self.hangs_by(m, *e) {
+                into[listed] = m;
+                listed += 1;
+            }
+        }
+        listed
     }
 
     // Works the parents and the roots out, by the devices that are closed.

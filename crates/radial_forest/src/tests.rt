@@ -134,3 +134,17 @@ fn roots_each_tree(rt: HostRuntime) -> Result<(), AllocError> {
     assert!(rt; !forest.would_loop(&grid, DeviceId(3)));
     Ok(())
 }
+
+// B hangs below A, and A below S.
+#[test]
+fn lists_what_is_below(rt: HostRuntime) -> Result<(), AllocError> {
+    let grid = network(&rt, rt.alloc())?;
+    let mut traversal = Traversal::new(rt.alloc(), &grid)?;
+    let closed = [true, true, false, false, true, false];
+    expect_radial(&rt, &grid, &mut traversal, &closed);
+    let forest = Forest::new(rt.alloc(), &grid, &closed)?;
+    let mut into = [NodeId(0); 6];
+    let count = forest.walk_below(&grid, DeviceId(0), &mut into);
+    assert!(rt; into[..count] == [NodeId(2), NodeId(3)]);
+    Ok(())
+}

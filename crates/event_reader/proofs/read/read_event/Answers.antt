@@ -23,12 +23,12 @@ returns-in_err-event_of_fields-clause-refused c = λ rule e.
     let p = err_from_is_err_and c.from_residual-in_err-event_of_fields.result c.from_residual-in_err-event_of_fields.ensures.1 in
     let bare : has_no_fields c.args.line.now ≡ false = false_from_ne_true _ (λ t. let bad = c.in_ok-row.ensures.bad.1 t in cc) in
     event_refused c.args.grid.now c.args.line.now c.in_err-event_of_fields.field-0.0 rule (sym c.is_skipped_line.ensures ∙ c.if-is_skipped_line.false) (omega arith) bare
-    (ap (event_of_fields c.args.grid.now) (sym c.in_ok-row.ensures.value ∙ sym c.of.ensures) ∙ sym c.in_err-event_of_fields.ensures)
+    (ap (event_of_fields c.args.grid.now) (sym c.in_ok-row.ensures.value ∙ sym c.of.ensures) ∙ sym c.in_err-event_of_fields.ensures.event)
     (sym p.2 ∙ same_refusal p.0 (refusal_by rule) c.from_residual-in_err-event_of_fields.result p.1 e)
 
 pub returns-clause-event : goal.returns-clause-event
 returns-clause-event c = λ event e.
     let bare : has_no_fields c.args.line.now ≡ false = false_from_ne_true _ (λ t. let bad = c.in_ok-row.ensures.bad.1 t in cc) in
     fields_read c.args.grid.now c.args.line.now (Ok c.in_ok-event_of_fields.field-0) (sym c.is_skipped_line.ensures ∙ c.if-is_skipped_line.false) (omega arith) bare
-    (ap (event_of_fields c.args.grid.now) (sym c.in_ok-row.ensures.value ∙ sym c.of.ensures) ∙ sym c.in_ok-event_of_fields.ensures)
+    (ap (event_of_fields c.args.grid.now) (sym c.in_ok-row.ensures.value ∙ sym c.of.ensures) ∙ sym c.in_ok-event_of_fields.ensures.event)
     ∙ ap IsEvent (same_event _ event e)

@@ -1,153 +1,133 @@
-use Rattle.std.proofs.Common.{rules, ◌≡◌}
-use Rattle.outage_ports.specs.Bytes.{AppendsPrefix}
+use Rattle.std.proofs.Common.{Some, ◌≡◌, ◌<◌, rules, false, sym, ap, ◌∙◌, subst}
 use Rattle.std.specs.Io.KnownBytes.{Appends}
-use Rattle.bound_checker.specs.declared.rules.Verdict.TheVariants as verdict
-use Rattle.bound_table.specs.Report.{report_reading, IsRefused}
+use Rattle.outage_ports.specs.Bytes.{AppendsPrefix}
 use Rattle.outage_cli.specs.Places.{places_view}
-use Rattle.outage_cli.specs.Told.{verdict_on, verdict_text}
-use Rattle.outage_cli.proofs.RunEnds.{report_refused, check_invalid, check_part, check_due, appends_verdict, prefix_verdict}
+use Rattle.outage_cli.specs.Form.{Check}
+use Rattle.outage_cli.specs.Told.{verdict_text, IsVerdictOf}
+use Rattle.outage_cli.specs.Ended.{IsEnd, DidSayBounds, IsReportStop}
+use Rattle.outage_cli.proofs.VerdictPlaces.{placed_by}
+use Rattle.outage_cli.proofs.Ends.{not_risen}
+use Rattle.outage_cli.specs.Run.{IsSilent}
+use Rattle.outage_cli.specs.declared.status.Status.TheVariants.{ReadFault}
+use Rattle.outage_cli.proofs.CheckEnds.{never_silent, no_error, stopped_end, report_end, check_part_end, check_done_end}
 use Rattle.outage_cli.proofs.check_run.run_check.Goals as goal
 
-pub returns-in-Err-Refused-read_bounds-clause-report : goal.returns-in-Err-Refused-read_bounds-clause-report
-returns-in-Err-Refused-read_bounds-clause-report g c = λ line rule e.
-    let refused : report_reading c.in-Ok-read_grid.grid c.in-Ok-read_whole-2.bytes.items ≡ IsRefused line rule = search rules in
-    report_refused
+pub returns-in-Err-clause-ended : goal.returns-in-Err-clause-ended
+returns-in-Err-clause-ended g c =
+    stopped_end
     (g.S.Shelf.files c.args.shelf.now)
-    (g.S.Shelf.files c.read_whole.new.shelf)
-    (g.S.Shelf.files c.read_whole-2.new.shelf)
-    (g.S.Shelf.left c.read_whole.new.shelf)
-    (g.S.Shelf.left c.read_whole-2.new.shelf)
-    (g.S.Shelf.left c.read_whole-3.new.shelf)
-    (places_view c.args.places)
-    c.args.report.now
-    c.in-Ok.net.items
-    c.in-Ok-read_whole.events.items
-    c.in-Ok-read_whole-2.bytes.items
-    c.in-Ok-read_grid.grid
-    line
-    rule
-    (record {
-      two = record {
-        same_files = c.in-Ok.ensures.files;
-        net_whole = c.in-Ok.ensures.whole;
-        net_fits = search rules;
-        grid = search rules;
-        events_whole = c.in-Ok-read_whole.ensures.whole;
-        events_fit = search rules;
-      };
-      last_files = c.in-Ok-read_whole.ensures.files;
-      report_whole = c.in-Ok-read_whole-2.ensures.whole;
-      report_fits = search rules;
-    })
-    refused
-
-pub returns-in-Ok-put_all-clause-invalid : goal.returns-in-Ok-put_all-clause-invalid
-returns-in-Ok-put_all-clause-invalid g c = λ rule e.
-    let told : verdict_on c.in-Ok-read_grid.grid c.in-Ok-read_whole.events.items c.in-Ok-read_bounds.bounds ≡ verdict.Invalid rule c.in-Invalid.place =
-    let v = c.in-Ok-verdict_of.ensures in let i = c.in-Invalid.is in cc in
-    let written : Appends (g.K.Sink.written c.args.out.now) (g.K.Sink.written c.put_all.new.out) (verdict_text c.in-Ok-read_grid.grid (verdict.Invalid rule c.in-Invalid.place)) =
-    appends_verdict (g.K.Sink.written c.args.out.now) (g.K.Sink.written c.put_all.new.out) c.in-Ok-text_of.text.items c.in-Ok-read_grid.grid c.in-Ok-verdict_of.verdict (verdict.Invalid rule c.in-Invalid.place) (search rules) c.in-Ok-text_of.ensures (let i = c.in-Invalid.is in cc) in
-    check_invalid
-    (g.S.Shelf.files c.args.shelf.now)
-    (g.S.Shelf.files c.read_whole.new.shelf)
-    (g.S.Shelf.files c.read_whole-2.new.shelf)
-    (g.S.Shelf.left c.read_whole.new.shelf)
-    (g.S.Shelf.left c.read_whole-2.new.shelf)
-    (g.S.Shelf.left c.read_whole-3.new.shelf)
-    (g.K.Sink.written c.args.out.now)
-    (g.K.Sink.written c.put_all.new.out)
-    (places_view c.args.places)
-    c.args.report.now
-    c.in-Ok.net.items
-    c.in-Ok-read_whole.events.items
-    c.in-Ok-read_whole-2.bytes.items
-    c.in-Ok-read_grid.grid
-    c.in-Ok-read_bounds.bounds
-    rule
-    c.in-Invalid.place
-    (record {
-      two = record {
-        same_files = c.in-Ok.ensures.files;
-        net_whole = c.in-Ok.ensures.whole;
-        net_fits = search rules;
-        grid = search rules;
-        events_whole = c.in-Ok-read_whole.ensures.whole;
-        events_fit = search rules;
-      };
-      last_files = c.in-Ok-read_whole.ensures.files;
-      report_whole = c.in-Ok-read_whole-2.ensures.whole;
-      report_fits = search rules;
-    })
-    (search rules)
-    told
-    written
-
-pub returns-in-Ok-put_all-clause-due : goal.returns-in-Ok-put_all-clause-due
-returns-in-Ok-put_all-clause-due g c = λ _.
-    check_due
-    (g.S.Shelf.files c.args.shelf.now)
-    (g.S.Shelf.files c.read_whole.new.shelf)
-    (g.S.Shelf.files c.read_whole-2.new.shelf)
-    (g.S.Shelf.left c.read_whole.new.shelf)
-    (g.S.Shelf.left c.read_whole-2.new.shelf)
-    (g.S.Shelf.left c.read_whole-3.new.shelf)
-    (places_view c.args.places)
-    c.args.report.now
-    c.in-Ok.net.items
-    c.in-Ok-read_whole.events.items
-    c.in-Ok-read_whole-2.bytes.items
-    c.in-Ok-read_grid.grid
-    c.in-Ok-read_bounds.bounds
+    (g.S.Shelf.left c.run_engine.new.shelf)
     _
-    (record {
-      two = record {
-        same_files = c.in-Ok.ensures.files;
-        net_whole = c.in-Ok.ensures.whole;
-        net_fits = search rules;
-        grid = search rules;
-        events_whole = c.in-Ok-read_whole.ensures.whole;
-        events_fit = search rules;
-      };
-      last_files = c.in-Ok-read_whole.ensures.files;
-      report_whole = c.in-Ok-read_whole-2.ensures.whole;
-      report_fits = search rules;
-    })
-    (search rules)
-
-pub returns-clause-part : goal.returns-clause-part
-returns-clause-part g c = λ _.
-    let part : AppendsPrefix (g.K.Sink.written c.args.out.now) (g.K.Sink.written c.put_all.new.out) (verdict_text c.in-Ok-read_grid.grid c.in-Ok-verdict_of.verdict) =
-    prefix_verdict (g.K.Sink.written c.args.out.now) (g.K.Sink.written c.put_all.new.out) c.in-Ok-text_of.text.items c.in-Ok-read_grid.grid c.in-Ok-verdict_of.verdict (search rules) c.in-Ok-text_of.ensures in
-    check_part
-    (g.S.Shelf.files c.args.shelf.now)
-    (g.S.Shelf.files c.read_whole.new.shelf)
-    (g.S.Shelf.files c.read_whole-2.new.shelf)
-    (g.S.Shelf.left c.read_whole.new.shelf)
-    (g.S.Shelf.left c.read_whole-2.new.shelf)
-    (g.S.Shelf.left c.read_whole-3.new.shelf)
+    _
     (g.K.Sink.written c.args.out.now)
-    (g.K.Sink.written c.put_all.new.out)
     (places_view c.args.places)
     c.args.report.now
-    c.in-Ok.net.items
-    c.in-Ok-read_whole.events.items
-    c.in-Ok-read_whole-2.bytes.items
-    c.in-Ok-read_grid.grid
-    c.in-Ok-read_bounds.bounds
-    c.in-Ok-verdict_of.verdict
-    (record {
-      two = record {
-        same_files = c.in-Ok.ensures.files;
-        net_whole = c.in-Ok.ensures.whole;
-        net_fits = search rules;
-        grid = search rules;
-        events_whole = c.in-Ok-read_whole.ensures.whole;
-        events_fit = search rules;
-      };
-      last_files = c.in-Ok-read_whole.ensures.files;
-      report_whole = c.in-Ok-read_whole-2.ensures.whole;
-      report_fits = search rules;
-    })
+    c.in-Err.status
+    (c.in-Err.ensures.stopped false)
     (search rules)
     (search rules)
+
+pub returns-in-Err-read_report-clause-ended : goal.returns-in-Err-read_report-clause-ended
+returns-in-Err-read_report-clause-ended g c =
+    let stop : IsReportStop (g.S.Shelf.files c.run_engine.new.shelf) c.args.report.now c.in-Ok.engine.grid c.in-Err-read_report.status =
+    subst (λ p. IsReportStop (g.S.Shelf.files c.run_engine.new.shelf) c.args.report.now p c.in-Err-read_report.status) c.grid-grid.ensures c.in-Err-read_report.ensures.stopped in
+    report_end
+    (places_view c.args.places)
+    c.args.report.now
+    c.in-Ok.engine
+    (g.S.Shelf.left c.run_engine.new.shelf)
+    _
+    _
+    (g.S.Shelf.files c.args.shelf.now)
+    (g.S.Shelf.files c.run_engine.new.shelf)
+    (g.S.Shelf.left c.read_report.new.shelf)
+    (g.K.Sink.written c.args.out.now)
+    c.in-Err-read_report.status
+    c.in-Ok.ensures.files
+    c.in-Ok.ensures.ran
+    stop
+
+pub text_of-requires : goal.text_of-requires
+text_of-requires g c =
+    subst (λ p. IsVerdictOf p c.in-Ok-verdict_by.verdict) (sym c.grid-grid.ensures)
+    (placed_by c.in-Ok.engine c.in-Ok-read_report.bounds c.in-Ok-verdict_by.verdict c.in-Ok.ensures.engine c.in-Ok-verdict_by.ensures)
+
+pub returns-in_default-text_of-clause-read_risen : goal.returns-in_default-text_of-clause-read_risen
+returns-in_default-text_of-clause-read_risen g c = λ rose.
+    let first : g.S.Shelf.faults c.args.shelf.now < g.S.Shelf.faults c.run_engine.new.shelf → ⊥ = λ l. no_error c.run_engine.result c.in-Ok.engine ReadFault c.in-Ok.is (c.run_engine.ensures.read_risen l) in
+    let second : g.S.Shelf.faults c.run_engine.new.shelf < g.S.Shelf.faults c.read_report.new.shelf → ⊥ = λ l. no_error c.read_report.result c.in-Ok-read_report.bounds ReadFault c.in-Ok-read_report.is (c.read_report.ensures.read_risen l) in
+    absurd (not_risen (g.S.Shelf.faults c.args.shelf.now) (g.S.Shelf.faults c.run_engine.new.shelf) (g.S.Shelf.faults c.read_report.new.shelf) first second rose)
+
+pub returns-in-Ok-put_all-clause-read_risen : goal.returns-in-Ok-put_all-clause-read_risen
+returns-in-Ok-put_all-clause-read_risen g c = λ rose.
+    let first : g.S.Shelf.faults c.args.shelf.now < g.S.Shelf.faults c.run_engine.new.shelf → ⊥ = λ l. no_error c.run_engine.result c.in-Ok.engine ReadFault c.in-Ok.is (c.run_engine.ensures.read_risen l) in
+    let second : g.S.Shelf.faults c.run_engine.new.shelf < g.S.Shelf.faults c.read_report.new.shelf → ⊥ = λ l. no_error c.read_report.result c.in-Ok-read_report.bounds ReadFault c.in-Ok-read_report.is (c.read_report.ensures.read_risen l) in
+    absurd (not_risen (g.S.Shelf.faults c.args.shelf.now) (g.S.Shelf.faults c.run_engine.new.shelf) (g.S.Shelf.faults c.read_report.new.shelf) first second rose)
+
+pub returns-in-Ok-put_all-clause-ended : goal.returns-in-Ok-put_all-clause-ended
+returns-in-Ok-put_all-clause-ended g c =
+    let says : DidSayBounds (g.S.Shelf.files c.run_engine.new.shelf) (g.S.Shelf.left c.read_report.new.shelf) c.args.report.now c.in-Ok.engine.grid c.in-Ok-read_report.bounds =
+    subst (λ p. DidSayBounds (g.S.Shelf.files c.run_engine.new.shelf) (g.S.Shelf.left c.read_report.new.shelf) c.args.report.now p c.in-Ok-read_report.bounds) c.grid-grid.ensures c.in-Ok-read_report.ensures.bounds in
+    let told : c.in-Ok-text_of.text.items ≡ verdict_text c.in-Ok.engine.grid c.in-Ok-verdict_by.verdict = c.in-Ok-text_of.ensures ∙ ap (λ p. verdict_text p c.in-Ok-verdict_by.verdict) c.grid-grid.ensures in
+    let all : Appends (g.K.Sink.written c.args.out.now) (g.K.Sink.written c.put_all.new.out) c.in-Ok-text_of.text.items = search rules in
+    let end =
+    check_done_end
+    (places_view c.args.places)
+    c.args.report.now
+    c.in-Ok.engine
+    (g.S.Shelf.left c.run_engine.new.shelf)
+    _
+    _
+    c.in-Ok-read_report.bounds
+    c.in-Ok-verdict_by.verdict
+    c.in-Ok-verdict_by.ensures
+    c.in-Ok-text_of.text.items
+    told
+    (g.S.Shelf.left c.read_report.new.shelf)
+    (g.K.Sink.written c.args.out.now)
+    (g.K.Sink.written c.put_all.new.out)
+    (g.S.Shelf.files c.args.shelf.now)
+    (g.S.Shelf.files c.run_engine.new.shelf)
+    c.in-Ok.ensures.files
+    c.in-Ok.ensures.ran
+    says
+    all in
+    subst (λ s. IsEnd (g.S.Shelf.files c.args.shelf.now) (g.S.Shelf.left c.read_report.new.shelf) (g.K.Sink.written c.args.out.now) (g.K.Sink.written c.put_all.new.out) (Some (Check (places_view c.args.places) c.args.report.now)) s) (sym c.status_by.ensures) end
+
+pub returns-clause-read_risen : goal.returns-clause-read_risen
+returns-clause-read_risen g c = λ rose.
+    let first : g.S.Shelf.faults c.args.shelf.now < g.S.Shelf.faults c.run_engine.new.shelf → ⊥ = λ l. no_error c.run_engine.result c.in-Ok.engine ReadFault c.in-Ok.is (c.run_engine.ensures.read_risen l) in
+    let second : g.S.Shelf.faults c.run_engine.new.shelf < g.S.Shelf.faults c.read_report.new.shelf → ⊥ = λ l. no_error c.read_report.result c.in-Ok-read_report.bounds ReadFault c.in-Ok-read_report.is (c.read_report.ensures.read_risen l) in
+    absurd (not_risen (g.S.Shelf.faults c.args.shelf.now) (g.S.Shelf.faults c.run_engine.new.shelf) (g.S.Shelf.faults c.read_report.new.shelf) first second rose)
+
+pub returns-clause-ended : goal.returns-clause-ended
+returns-clause-ended g c =
+    let says : DidSayBounds (g.S.Shelf.files c.run_engine.new.shelf) (g.S.Shelf.left c.read_report.new.shelf) c.args.report.now c.in-Ok.engine.grid c.in-Ok-read_report.bounds =
+    subst (λ p. DidSayBounds (g.S.Shelf.files c.run_engine.new.shelf) (g.S.Shelf.left c.read_report.new.shelf) c.args.report.now p c.in-Ok-read_report.bounds) c.grid-grid.ensures c.in-Ok-read_report.ensures.bounds in
+    let told : c.in-Ok-text_of.text.items ≡ verdict_text c.in-Ok.engine.grid c.in-Ok-verdict_by.verdict = c.in-Ok-text_of.ensures ∙ ap (λ p. verdict_text p c.in-Ok-verdict_by.verdict) c.grid-grid.ensures in
+    let part : AppendsPrefix (g.K.Sink.written c.args.out.now) (g.K.Sink.written c.put_all.new.out) c.in-Ok-text_of.text.items = search rules in
+    check_part_end
+    (places_view c.args.places)
+    c.args.report.now
+    c.in-Ok.engine
+    (g.S.Shelf.left c.run_engine.new.shelf)
+    _
+    _
+    c.in-Ok-read_report.bounds
+    c.in-Ok-verdict_by.verdict
+    c.in-Ok-verdict_by.ensures
+    c.in-Ok-text_of.text.items
+    told
+    (g.S.Shelf.left c.read_report.new.shelf)
+    (g.K.Sink.written c.args.out.now)
+    (g.K.Sink.written c.put_all.new.out)
+    (g.S.Shelf.files c.args.shelf.now)
+    (g.S.Shelf.files c.run_engine.new.shelf)
+    c.in-Ok.ensures.files
+    c.in-Ok.ensures.ran
+    says
     part
+
+pub returns-in-Ok-put_all-clause-idle : goal.returns-in-Ok-put_all-clause-idle
+returns-in-Ok-put_all-clause-idle g c = λ silent.
+    absurd (never_silent c.in-Ok-verdict_by.verdict (subst (λ s. IsSilent (Some (Check (places_view c.args.places) c.args.report.now)) s) c.status_by.ensures silent))

@@ -1,0 +1,4 @@
+pub mod Kept
+pub mod Slot
+pub mod Inside
+pub mod Laws

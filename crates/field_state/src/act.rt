@@ -1,0 +1,217 @@
+//! What an event does to the field where nothing is due.
+ghost use Rattle.std.specs.Prelude.{◌≡◌, ◌<◌, ◌≤◌, ◌==◌, length};
+
+use crate::state::State;
+use evidence::Sign;
+use grid_model::{
+    Confirmed, DeviceId, Event, Grid, Mark, MeterId, NodeId, Setting, Stamp, Want, What,
+};
+use switching::{Change, decide};
+
+impl State {
+    ghost use Rattle.std.specs.Prelude.{◌≡◌, ◌≤◌, ◌<◌, ◌+◌, ◌==◌, ◌&&◌, ℕ, List, ◌∷◌, None, true, false, length, slice_index_or, nat_lt};
+    ghost use Rattle.radial_forest.specs.Traversed.{node_at};
+    ghost use Rattle.outage_rules.specs.Loops.{would_loop};
+    ghost use Rattle.grid_model.specs.Places.{node_of, setting_of};
+    ghost use Rattle.grid_model.specs.declared.parts.Setting.TheVariants.{OkHold};
+    ghost use Rattle.grid_model.specs.declared.history.Stamp.{Stamp};
+    ghost use Rattle.radial_forest.specs.Forested.{IsForestOf};
+    ghost use Rattle.history_rules.specs.Slots.{end_after};
+    ghost use Rattle.grid_model.specs.Network.{network_in};
+    ghost use Rattle.grid_model.specs.declared.history.What.TheVariants as what;
+    ghost use Rattle.grid_model.specs.declared.history.Want.TheVariants as wanted;
+    ghost use Rattle.history_rules.specs.State.{is_fed, closed_by, fine_while};
+    ghost use Rattle.evidence.specs.Kept.{kept_of, sign_what};
+    ghost use Rattle.grid_model.specs.declared.history.Event.{Event};
+    ghost use Rattle.history_rules.specs.Posed.{IsOfGrid, refusal_of};
+    ghost use Rattle.field_state.specs.FieldKept.{IsFieldAt};
+    ghost use Rattle.field_state.specs.Acted.{rule_in, IsReady, IsKeptBy, IsMarkedBy, IsDone, restored_if, is_listed, is_brought};
+
+    // A call of a meter.
+    fn call(&mut self, grid: &Grid, m: MeterId, now: Stamp)
+        requires ready { IsReady grid.now now.0 self.old }
+        requires meter { m.0 < length grid.now.meters }
+        requires range { now.0 ≤ 253_402_300_799 }
+        ensures { IsDone grid.now (record { time = now; what = what.Call m }) self.old self.new }
+    {
+        let before = self.evidence.pull(m);
+        let after = self.evidence.call(grid, m, now);
+        self.take_pull(grid, m, before, after);
+    }
+
+    // A signal of a meter.
+    fn signal(&mut self, grid: &Grid, m: MeterId, sign: Sign, now: Stamp)
+        requires ready { IsReady grid.now now.0 self.old }
+        requires meter { m.0 < length grid.now.meters }
+        requires range { now.0 ≤ 253_402_300_799 }
+        ensures { IsDone grid.now (record { time = now; what = sign_what sign m }) self.old self.new }
+    {
+        let before = self.evidence.pull(m);
+        let after = self.evidence.signal(grid, m, sign, now);
+        self.take_pull(grid, m, before, after);
+    }
+
+    // A restoration brings a meter back.
+    fn restore_meter(&mut self, grid: &Grid, m: MeterId, now: Stamp)
+        requires ready { IsReady grid.now now.0 self.old }
+        requires meter { m.0 < length grid.now.meters }
+        requires range { now.0 ≤ 253_402_300_799 }
+        ensures { IsKeptBy grid.now now.0 (λ k. restored_if (k == m.0) now.0 (kept_of self.old.evidence k)) self.old self.new }
+    {
+        let before = self.evidence.pull(m);
+        let after = self.evidence.restored(grid, m, now);
+        self.take_pull(grid, m, before, after);
+    }
+
+    // A restoration brings the meters at a node back.
+    fn restore_node(&mut self, grid: &Grid, n: NodeId, now: Stamp)
+        requires ready { IsReady grid.now now.0 self.old }
+        requires node { n.0 < length grid.now.nodes }
+        requires range { now.0 ≤ 253_402_300_799 }
+        ensures { IsKeptBy grid.now now.0 (λ k. restored_if (node_of grid.now k == n.0) now.0 (kept_of self.old.evidence k)) self.old self.new }
+    {
+        for m in grid.meters_at(n) {
+            self.restore_meter(grid, *m, now);
+        }
+    }
+
+    // A restoration brings the meters at the fed ones of these nodes back.
+    fn restore_nodes(&mut self, grid: &Grid, nodes: &[NodeId], now: Stamp)
+        requires ready { IsReady grid.now now.0 self.old }
+        requires nodes { (i : ℕ) → i < length nodes.now → node_at nodes.now i < length grid.now.nodes }
+        requires range { now.0 ≤ 253_402_300_799 }
+        ensures { IsKeptBy grid.now now.0
+            (λ k. restored_if (is_listed nodes.now (length nodes.now) (node_of grid.now k)
+            && is_fed (network_in grid.now (λ e. slice_index_or self.old.forest.closed e false)) (node_of grid.now k)) now.0 (kept_of self.old.evidence k)) self.old self.new }
+    {
+        for n in nodes {
+            if self.forest.is_fed(grid, *n) {
+                self.restore_node(grid, *n, now);
+            }
+        }
+    }
+
+    // Marks a device as fine, for as long as such a mark holds.
+    fn mark_fine(&mut self, grid: &Grid, d: DeviceId, now: Stamp)
+        requires device { d.0 < length grid.now.devices }
+        requires marks { length self.old.marks ≡ length grid.now.devices }
+        requires due { length self.old.due ≡ length grid.now.meters + length grid.now.devices }
+        requires range { now.0 ≤ 253_402_300_799 }
+        ensures { IsMarkedBy grid.now d.0 (fine_while (nat_lt now.0 (now.0 + setting_of grid.now OkHold)))
+            (end_after now.0 (now.0 + setting_of grid.now OkHold)) self.old self.new }
+    {
+        let _ = grid.devices();
+        let hold = grid.setting(Setting::OkHold);
+        if hold > 0 {
+            self.take_mark(grid, d, Mark::Fine, Some(Stamp(now.0 + hold)));
+        } else {
+            self.take_mark(grid, d, Mark::Nothing, None);
+        }
+    }
+
+    // What a crew says of a device.
+    fn confirm(&mut self, grid: &Grid, d: DeviceId, said: Confirmed, now: Stamp)
+        requires ready { IsReady grid.now now.0 self.old }
+        requires device { d.0 < length grid.now.devices }
+        requires range { now.0 ≤ 253_402_300_799 }
+        ensures { IsDone grid.now (record { time = now; what = what.Confirm d said }) self.old self.new }
+    {
+        match said {
+            Confirmed::Opened => self.take_mark(grid, d, Mark::Opened, None),
+            Confirmed::Fine => self.mark_fine(grid, d, now),
+            Confirmed::Cleared => self.take_mark(grid, d, Mark::Nothing, None),
+        }
+    }
+
+    // A restoration brings the meters back that a closed device feeds. There is room for all nodes.
+    fn bring_back(&mut self, grid: &Grid, d: DeviceId, now: Stamp, room: &mut [NodeId])
+        requires ready { IsReady grid.now now.0 self.old }
+        requires device { d.0 < length grid.now.devices }
+        requires closed { slice_index_or self.old.forest.closed d.0 false ≡ true }
+        requires room { length room.old ≡ length grid.now.nodes }
+        requires range { now.0 ≤ 253_402_300_799 }
+        ensures { IsKeptBy grid.now now.0 (λ k. restored_if (is_brought grid.now self.old.forest.closed k (what.Restore d)) now.0 (kept_of self.old.evidence k)) self.old self.new }
+    {
+        let count = self.forest.walk_below(grid, d, room);
+        self.restore_nodes(grid, &room[..count], now);
+    }
+
+    // A closed device feeds again what is below it. There is room for all nodes.
+    fn restore(&mut self, grid: &Grid, d: DeviceId, now: Stamp, room: &mut [NodeId])
+        requires ready { IsReady grid.now now.0 self.old }
+        requires device { d.0 < length grid.now.devices }
+        requires closed { slice_index_or self.old.forest.closed d.0 false ≡ true }
+        requires room { length room.old ≡ length grid.now.nodes }
+        requires range { now.0 ≤ 253_402_300_799 }
+        ensures { IsDone grid.now (record { time = now; what = what.Restore d }) self.old self.new }
+    {
+        self.bring_back(grid, d, now, room);
+        self.mark_fine(grid, d, now);
+    }
+
+    // Puts a device into the state that is wanted, which closes no loop.
+    fn turn(&mut self, grid: &Grid, d: DeviceId, want: Want)
+        requires forest { IsForestOf grid.now self.old.forest.closed self.old.forest }
+        requires device { d.0 < length grid.now.devices }
+        requires unlooped { want ≡ wanted.Closed → slice_index_or self.old.forest.closed d.0 false ≡ false
+            → would_loop (network_in grid.now (λ e. slice_index_or self.old.forest.closed e false)) d.0 ≡ false }
+        ensures forest { IsForestOf grid.now self.new.forest.closed self.new.forest }
+        ensures closed { (e : ℕ) → slice_index_or self.new.forest.closed e false ≡ closed_by (what.Order d want) e (slice_index_or self.old.forest.closed e false) }
+        ensures same { self.new ≡ record self.old { forest = self.new.forest } }
+    {
+        match decide(grid, &self.forest, d, want) {
+            Ok(Change::Opens) => self.forest.rebuild(grid, d, false),
+            Ok(Change::Closes) => self.forest.rebuild(grid, d, true),
+            Ok(Change::Nothing) => {}
+            Err(_) => {}
+        }
+    }
+
+    // A switching order that isn't refused.
+    fn order(&mut self, grid: &Grid, d: DeviceId, want: Want)
+        requires ready { (t : ℕ) × IsReady grid.now t self.old }
+        requires device { d.0 < length grid.now.devices }
+        requires unlooped { want ≡ wanted.Closed → slice_index_or self.old.forest.closed d.0 false ≡ false
+            → would_loop (network_in grid.now (λ e. slice_index_or self.old.forest.closed e false)) d.0 ≡ false }
+        ensures { (now : Stamp) → IsReady grid.now now.0 self.old → IsDone grid.now (record { time = now; what = what.Order d want }) self.old self.new }
+    {
+        self.turn(grid, d, want);
+        self.take_mark(grid, d, Mark::Nothing, None);
+    }
+
+    // Does what an event says.
+    fn perform(&mut self, grid: &Grid, event: Event, room: &mut [NodeId])
+        requires ready { IsReady grid.now event.time.0 self.old }
+        requires of_grid { IsOfGrid grid.now event.what }
+        requires allowed { rule_in grid.now self.old.forest.closed event.what ≡ None }
+        requires room { length room.old ≡ length grid.now.nodes }
+        requires range { event.time.0 ≤ 253_402_300_799 }
+        ensures { IsDone grid.now event self.old self.new }
+    {
+        match event.what {
+            What::Call(m) => self.call(grid, m, event.time),
+            What::Gasp(m) => self.signal(grid, m, Sign::Gasp, event.time),
+            What::PingDown(m) => self.signal(grid, m, Sign::PingDown, event.time),
+            What::PingUp(m) => self.signal(grid, m, Sign::PingUp, event.time),
+            What::Powerup(m) => self.signal(grid, m, Sign::Powerup, event.time),
+            What::Confirm(d, said) => self.confirm(grid, d, said, event.time),
+            What::Restore(d) => self.restore(grid, d, event.time, room),
+            What::Order(d, want) => self.order(grid, d, want),
+            What::Clock => {}
+        }
+    }
+
+    // Does what an event says that no rule refuses, at its time, where nothing is due. There is room
+    // for all nodes.
+    pub(crate) fn act(&mut self, grid: &Grid, event: Event, room: &mut [NodeId])
+        requires at { (h : List Event) × IsFieldAt grid.now h event.time.0 self.old × (refusal_of grid.now h event ≡ None) }
+        requires of_grid { IsOfGrid grid.now event.what }
+        requires room { length room.old ≡ length grid.now.nodes }
+        requires range { event.time.0 ≤ 253_402_300_799 }
+        ensures at { (h : List Event) → IsFieldAt grid.now h event.time.0 self.old → refusal_of grid.now h event ≡ None
+            → IsFieldAt grid.now (event ∷ h) event.time.0 self.new }
+        ensures same { (self.new.now ≡ self.old.now) × (self.new.applied ≡ self.old.applied) }
+    {
+        self.perform(grid, event, room);
+    }
+}

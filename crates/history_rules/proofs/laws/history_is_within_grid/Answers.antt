@@ -1,0 +1,5 @@
+use Rattle.history_rules.proofs.TimelyLemmas
+use Rattle.history_rules.proofs.laws.history_is_within_grid.Goals as goal
+
+pub returns : goal.returns
+returns c = TimelyLemmas.history_is_within_grid

@@ -1,0 +1,13 @@
+pub mod State
+pub mod Evidence
+pub mod Posed
+pub mod Slots
+pub mod Laws
+pub mod Run
+pub mod Output
+pub mod Outages
+pub mod Ledger
+pub mod RunLaws
+pub mod Shown
+pub mod StampTexts
+pub mod Report

@@ -1,0 +1,5 @@
+mod Keeping
+mod Meters
+mod ByNumber
+mod Open
+mod Listing

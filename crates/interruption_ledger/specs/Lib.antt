@@ -1,0 +1,3 @@
+pub mod Ledgered
+pub mod Inside
+pub mod Laws

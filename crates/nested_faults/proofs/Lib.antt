@@ -1,0 +1,10 @@
+pub mod Noting
+pub mod Ranges
+pub mod Chains
+pub mod LastCut
+pub mod Tallying
+pub mod Listed
+pub mod Keeping
+pub mod Whole
+pub mod SmallGrids
+pub mod Judging

@@ -1,0 +1,4 @@
+pub mod LastCuts
+pub mod Tallies
+pub mod Listing
+pub mod JudgedField

@@ -1,0 +1,281 @@
+-- Which statuses are owed: the causes exclude one another.
+use Rattle.std.proofs.Common.{◌≡◌, ◌≤◌, ℕ, Bool, List, length, take, Option, None, Some, inl, inr, refl, sym, ap, ◌∙◌, arith}
+use Rattle.std.specs.Prelude.{◌⊎◌, if◌then◌else◌}
+use Rattle.std.proofs.lemmas.Bool.{le-leb}
+use Rattle.grid_model.specs.Parts.{Parts}
+use Rattle.event_rules.specs.Lines.{lines}
+use Rattle.grid_reader.specs.Text.{GridReading, grid_text, IsGrid, IsRefusedAt}
+use Rattle.grid_reader.specs.declared.fault.GridRule.{GridRule}
+use Rattle.history_rules.specs.Run.{counted, lines_within, ended_lines}
+use Rattle.bound_table.specs.Table.{Table}
+use Rattle.bound_table.specs.Report.{ReportReading, report_reading, IsRead, IsRefused}
+use Rattle.bound_table.specs.declared.bounds.BoundRule.{BoundRule}
+use Rattle.bound_checker.specs.declared.rules.Verdict.{Verdict}
+use Rattle.bound_checker.specs.declared.rules.Verdict.TheVariants as verdict
+use Rattle.outage_ports.specs.Bytes.{Files}
+use Rattle.outage_cli.specs.Form.{Places, Command, Replay, Check}
+use Rattle.outage_cli.specs.Files.{most_network, most_events, most_report, IsTooLong, IsWithin, SaysNetwork, RefusesNetworkAt, HasEvents, HasTooManyLines, HasTooManyBytes, SaysBounds, RefusesReportAt}
+use Rattle.outage_cli.specs.Told.{verdict_on}
+use Rattle.outage_cli.specs.Run.{CanReplay, CanCheck, places_in, RefusesReport, IsOver, IsDue, status_of, Completes, IsComplete}
+use Rattle.outage_cli.specs.Ended.{EndsAs, IsEnd}
+use Rattle.outage_cli.specs.declared.status.Status.{Status}
+use Rattle.outage_cli.specs.declared.status.Status.TheVariants.{Done, Invalid, Usage, ReadFault, WriteFault, NetworkRefused, ReportRefused, Limit, Memory}
+use Rattle.outage_cli.specs.declared.status.Which.{Which}
+use Rattle.outage_cli.specs.declared.status.Which.TheVariants.{NetworkBytes, EventLines, EventBytes, ReportBytes}
+
+-- a file has one text
+one_text : (a b : List ℕ) (o : Option (List ℕ)) → o ≡ Some a → o ≡ Some b → a ≡ b
+one_text a b o p q = cc
+
+not_long : (files : Files) (name bytes : List ℕ) (most : ℕ) → IsWithin files name most bytes → IsTooLong files name most → ⊥
+not_long files name bytes most file long =
+    let same = ap length (one_text bytes long.bytes (files name) file.are long.are) in
+    let fits = file.fits in
+    let more = long.more in absurd (omega arith)
+
+-- one network, or one refusal
+one_network : (a b : Parts) (r : GridReading) → r ≡ IsGrid a → r ≡ IsGrid b → a ≡ b
+one_network a b r p q = cc
+
+grid_or_refused : (a : Parts) (line : ℕ) (rule : GridRule) (r : GridReading) → r ≡ IsGrid a → r ≡ IsRefusedAt line rule → ⊥
+grid_or_refused a line rule r p q = cc
+
+one_grid_refusal : (line other : ℕ) (rule rival : GridRule) (r : GridReading) → r ≡ IsRefusedAt line rule → r ≡ IsRefusedAt other rival → NetworkRefused line rule ≡ NetworkRefused other rival
+one_grid_refusal line other rule rival r p q = cc
+
+-- one table, or one refusal
+one_table : (a b : Table) (r : ReportReading) → r ≡ IsRead a → r ≡ IsRead b → a ≡ b
+one_table a b r p q = cc
+
+read_or_refused : (a : Table) (line : ℕ) (rule : BoundRule) (r : ReportReading) → r ≡ IsRead a → r ≡ IsRefused line rule → ⊥
+read_or_refused a line rule r p q = cc
+
+one_report_refusal : (line other : ℕ) (rule rival : BoundRule) (r : ReportReading) → r ≡ IsRefused line rule → r ≡ IsRefused other rival → ReportRefused line rule ≡ ReportRefused other rival
+one_report_refusal line other rule rival r p q = cc
+
+module _ (files : Files) where
+  module _ (name : List ℕ) where
+    same_parts : (g h : Parts) → SaysNetwork files name g → SaysNetwork files name h → g ≡ h
+    same_parts g h p q =
+        one_network g h (grid_text q.bytes) (sym (ap grid_text (one_text p.bytes q.bytes (files name) p.file.are q.file.are)) ∙ p.grid) q.grid
+
+    says_or_refused : (g : Parts) (line : ℕ) (rule : GridRule) → SaysNetwork files name g → RefusesNetworkAt files name line rule → ⊥
+    says_or_refused g line rule p q =
+        grid_or_refused g line rule (grid_text q.bytes) (sym (ap grid_text (one_text p.bytes q.bytes (files name) p.file.are q.file.are)) ∙ p.grid) q.refused
+
+    refused_once : (line other : ℕ) (rule rival : GridRule) → RefusesNetworkAt files name line rule → RefusesNetworkAt files name other rival → NetworkRefused line rule ≡ NetworkRefused other rival
+    refused_once line other rule rival p q =
+        one_grid_refusal line other rule rival (grid_text q.bytes) (sym (ap grid_text (one_text p.bytes q.bytes (files name) p.file.are q.file.are)) ∙ p.refused) q.refused
+
+    -- events are within their limits, or have too many lines, or too many bytes
+    whole_lines : (bytes : List ℕ) → length bytes ≤ most_events → lines_within most_events bytes ≡ lines bytes
+    whole_lines bytes fits = ap (λ b. if b then lines bytes else ended_lines (take most_events bytes)) (le-leb (length bytes) most_events fits)
+
+    few_or_many : (a b : List ℕ) → HasEvents files name a → HasTooManyLines files name b → ⊥
+    few_or_many a b p q =
+        let same = one_text a b (files name) p.file.are q.are in
+        let whole = ap (λ ls. length (counted ls)) (ap (lines_within most_events) (sym same) ∙ whole_lines a p.file.fits) in
+        let few = p.few in
+        let many = q.many in absurd (omega arith)
+
+    few_or_more : (a b : List ℕ) → HasEvents files name a → HasTooManyBytes files name b → ⊥
+    few_or_more a b p q =
+        let same = ap length (one_text a b (files name) p.file.are q.are) in
+        let fits = p.file.fits in
+        let more = q.more in absurd (omega arith)
+
+    many_or_more : (a b : List ℕ) → HasTooManyLines files name a → HasTooManyBytes files name b → ⊥
+    many_or_more a b p q =
+        let same = ap (λ bytes. length (counted (lines_within most_events bytes))) (one_text a b (files name) p.are q.are) in
+        let many = p.many in
+        let few = q.few in absurd (omega arith)
+
+    same_events : (a b : List ℕ) → HasEvents files name a → HasEvents files name b → a ≡ b
+    same_events a b p q = one_text a b (files name) p.file.are q.file.are
+
+    -- the report of a network has bounds, or is refused
+    same_bounds : (g h : Parts) (a b : Table) → g ≡ h → SaysBounds files name g a → SaysBounds files name h b → a ≡ b
+    same_bounds g h a b e p q =
+        one_table a b (report_reading h q.bytes)
+        (sym (ap (λ p. report_reading p q.bytes) e) ∙ sym (ap (report_reading g) (one_text p.bytes q.bytes (files name) p.file.are q.file.are)) ∙ p.reading) q.reading
+
+    bounds_or_refused : (g h : Parts) (a : Table) (line : ℕ) (rule : BoundRule) → g ≡ h → SaysBounds files name g a → RefusesReportAt files name h line rule → ⊥
+    bounds_or_refused g h a line rule e p q =
+        read_or_refused a line rule (report_reading h q.bytes)
+        (sym (ap (λ p. report_reading p q.bytes) e) ∙ sym (ap (report_reading g) (one_text p.bytes q.bytes (files name) p.file.are q.file.are)) ∙ p.reading) q.refused
+
+    report_refused_once : (g h : Parts) (line other : ℕ) (rule rival : BoundRule) → g ≡ h → RefusesReportAt files name g line rule → RefusesReportAt files name h other rival →
+        ReportRefused line rule ≡ ReportRefused other rival
+    report_refused_once g h line other rule rival e p q =
+        one_report_refusal line other rule rival (report_reading h q.bytes)
+        (sym (ap (λ p. report_reading p q.bytes) e) ∙ sym (ap (report_reading g) (one_text p.bytes q.bytes (files name) p.file.are q.file.are)) ∙ p.refused) q.refused
+
+  -- a refused network has no other cause
+  refused_or_over : (command : Command) (line : ℕ) (rule : GridRule) (which : Which) → RefusesNetworkAt files (places_in command).net line rule → IsOver files command which → ⊥
+  refused_or_over command line rule NetworkBytes r o = not_long files (places_in command).net r.bytes most_network r.file o
+  refused_or_over command line rule EventLines r o = says_or_refused (places_in command).net o.parts line rule o.network r
+  refused_or_over command line rule EventBytes r o = says_or_refused (places_in command).net o.parts line rule o.network r
+  refused_or_over (Replay places with_bounds) line rule ReportBytes r o = absurd o
+  refused_or_over (Check places report) line rule ReportBytes r o = says_or_refused places.net o.0.parts line rule o.0.network r
+
+  -- what can be replayed meets no limit of its files
+  can_or_refused : (places : Places) (line : ℕ) (rule : GridRule) → CanReplay files places → RefusesNetworkAt files places.net line rule → ⊥
+  can_or_refused places line rule can r = says_or_refused places.net can.parts line rule can.network r
+
+  can_or_long : (places : Places) → CanReplay files places → IsTooLong files places.net most_network → ⊥
+  can_or_long places can long = not_long files places.net can.network.bytes most_network can.network.file long
+
+  replay_or_over : (places : Places) (with_bounds : Bool) (which : Which) → CanReplay files places → IsOver files (Replay places with_bounds) which → ⊥
+  replay_or_over places with_bounds NetworkBytes can o = can_or_long places can o
+  replay_or_over places with_bounds EventLines can o = few_or_many places.events can.events o.bytes can.event_file o.many
+  replay_or_over places with_bounds EventBytes can o = few_or_more places.events can.events o.bytes can.event_file o.long
+  replay_or_over places with_bounds ReportBytes can o = absurd o
+
+  -- nor does what can be checked
+  can_of : (places : Places) (report : List ℕ) (v : Verdict) → CanCheck files places report v → CanReplay files places
+  can_of places report v can = record { parts = can.parts; events = can.events; network = can.network; event_file = can.event_file }
+
+  check_or_over : (places : Places) (report : List ℕ) (v : Verdict) (which : Which) → CanCheck files places report v → IsOver files (Check places report) which → ⊥
+  check_or_over places report v NetworkBytes can o = can_or_long places (can_of places report v can) o
+  check_or_over places report v EventLines can o = few_or_many places.events can.events o.bytes can.event_file o.many
+  check_or_over places report v EventBytes can o = few_or_more places.events can.events o.bytes can.event_file o.long
+  check_or_over places report v ReportBytes can o = not_long files report can.report_file.bytes most_report can.report_file.file o.1
+
+  check_or_refused : (places : Places) (report : List ℕ) (v : Verdict) (line : ℕ) (rule : BoundRule) → CanCheck files places report v → RefusesReport files (Check places report) line rule → ⊥
+  check_or_refused places report v line rule can r =
+      bounds_or_refused report can.parts r.0.parts can.bounds line rule (same_parts places.net can.parts r.0.parts can.network r.0.network) can.report_file r.1
+
+  refused_or_long : (places : Places) (report : List ℕ) (line : ℕ) (rule : BoundRule) (which : Which) → RefusesReport files (Check places report) line rule → IsOver files (Check places report) which → ⊥
+  refused_or_long places report line rule NetworkBytes r o = can_or_long places r.0 o
+  refused_or_long places report line rule EventLines r o = few_or_many places.events r.0.events o.bytes r.0.event_file o.many
+  refused_or_long places report line rule EventBytes r o = few_or_more places.events r.0.events o.bytes r.0.event_file o.long
+  refused_or_long places report line rule ReportBytes r o = not_long files report r.1.bytes most_report r.1.file o.1
+
+  one_check : (places : Places) (report : List ℕ) (v w : Verdict) → CanCheck files places report v → CanCheck files places report w → v ≡ w
+  one_check places report v w p q =
+      let parts = same_parts places.net p.parts q.parts p.network q.network in
+      let events = same_events places.events p.events q.events p.event_file q.event_file in
+      let bounds = same_bounds report p.parts q.parts p.bounds q.bounds parts p.report_file q.report_file in
+      sym p.verdict_is ∙ ap (λ g. verdict_on g p.events p.bounds) parts ∙ ap (λ xs. verdict_on q.parts xs p.bounds) events ∙ ap (verdict_on q.parts q.events) bounds ∙ q.verdict_is
+
+  -- one limit is met first
+  network_or_later : (places : Places) (g : Parts) → SaysNetwork files places.net g → IsTooLong files places.net most_network → ⊥
+  network_or_later places g says long = not_long files places.net says.bytes most_network says.file long
+
+  one_limit : (command : Command) (a b : Which) → IsOver files command a → IsOver files command b → Limit a ≡ Limit b
+  one_limit command NetworkBytes NetworkBytes p q = refl
+  one_limit command EventLines EventLines p q = refl
+  one_limit command EventBytes EventBytes p q = refl
+  one_limit command ReportBytes ReportBytes p q = refl
+  one_limit command NetworkBytes EventLines p q = absurd (network_or_later (places_in command) q.parts q.network p)
+  one_limit command NetworkBytes EventBytes p q = absurd (network_or_later (places_in command) q.parts q.network p)
+  one_limit (Replay places with_bounds) NetworkBytes ReportBytes p q = absurd q
+  one_limit (Check places report) NetworkBytes ReportBytes p q = absurd (can_or_long places q.0 p)
+  one_limit command EventLines NetworkBytes p q = absurd (network_or_later (places_in command) p.parts p.network q)
+  one_limit command EventLines EventBytes p q = absurd (many_or_more (places_in command).events p.bytes q.bytes p.many q.long)
+  one_limit (Replay places with_bounds) EventLines ReportBytes p q = absurd q
+  one_limit (Check places report) EventLines ReportBytes p q = absurd (few_or_many places.events q.0.events p.bytes q.0.event_file p.many)
+  one_limit command EventBytes NetworkBytes p q = absurd (network_or_later (places_in command) p.parts p.network q)
+  one_limit command EventBytes EventLines p q = absurd (many_or_more (places_in command).events q.bytes p.bytes q.many p.long)
+  one_limit (Replay places with_bounds) EventBytes ReportBytes p q = absurd q
+  one_limit (Check places report) EventBytes ReportBytes p q = absurd (few_or_more places.events q.0.events p.bytes q.0.event_file p.long)
+  one_limit (Replay places with_bounds) ReportBytes b p q = absurd p
+  one_limit (Check places report) ReportBytes NetworkBytes p q = absurd (can_or_long places p.0 q)
+  one_limit (Check places report) ReportBytes EventLines p q = absurd (few_or_many places.events p.0.events q.bytes p.0.event_file q.many)
+  one_limit (Check places report) ReportBytes EventBytes p q = absurd (few_or_more places.events p.0.events q.bytes p.0.event_file q.long)
+
+  module _ (left before now : Option (List ℕ)) where
+    -- which limit is owed
+    over_owed : (command : Command) (status : Status) → EndsAs files left before now command status → (status ≡ ReadFault → ⊥) →
+        (which : Which) → IsOver files command which → (status ≡ Limit which) ⊎ ((status ≡ Memory) ⊎ (status ≡ WriteFault))
+    over_owed (Replay places b) Done end read which o = absurd (replay_or_over places b which end.can o)
+    over_owed (Check places report) Done end read which o = absurd (check_or_over places report verdict.Valid which end.can o)
+    over_owed (Replay places b) (Invalid rule) end read which o = absurd end
+    over_owed (Check places report) (Invalid rule) end read which o = absurd (check_or_over places report (verdict.Invalid rule end.0) which end.1.can o)
+    over_owed command Usage end read which o = absurd end
+    over_owed command ReadFault end read which o = absurd (read refl)
+    over_owed command WriteFault end read which o = inr (inr refl)
+    over_owed command (NetworkRefused line rule) end read which o = absurd (refused_or_over command line rule which end o)
+    over_owed (Replay places b) (ReportRefused line rule) end read which o = absurd end
+    over_owed (Check places report) (ReportRefused line rule) end read which o = absurd (refused_or_long places report line rule which end o)
+    over_owed command (Limit a) end read which o = inl (one_limit command a which end.0 o)
+    over_owed command Memory end read which o = inr (inl refl)
+
+    -- which refusal of the network
+    network_owed : (command : Command) (status : Status) → EndsAs files left before now command status → (status ≡ ReadFault → ⊥) →
+        (line : ℕ) (rule : GridRule) → RefusesNetworkAt files (places_in command).net line rule → (status ≡ NetworkRefused line rule) ⊎ (status ≡ Memory)
+    network_owed (Replay places b) Done end read line rule r = absurd (can_or_refused places line rule end.can r)
+    network_owed (Check places report) Done end read line rule r = absurd (says_or_refused places.net end.can.parts line rule end.can.network r)
+    network_owed (Replay places b) (Invalid broken) end read line rule r = absurd end
+    network_owed (Check places report) (Invalid broken) end read line rule r = absurd (says_or_refused places.net end.1.can.parts line rule end.1.can.network r)
+    network_owed command Usage end read line rule r = absurd end
+    network_owed command ReadFault end read line rule r = absurd (read refl)
+    network_owed (Replay places b) WriteFault end read line rule r = absurd (says_or_refused places.net end.can.parts line rule end.can.network r)
+    network_owed (Check places report) WriteFault end read line rule r = absurd (says_or_refused places.net end.can.parts line rule end.can.network r)
+    network_owed command (NetworkRefused other rival) end read line rule r = inl (refused_once (places_in command).net other line rival rule end r)
+    network_owed (Replay places b) (ReportRefused other rival) end read line rule r = absurd end
+    network_owed (Check places report) (ReportRefused other rival) end read line rule r = absurd (can_or_refused places line rule end.0 r)
+    network_owed command (Limit a) end read line rule r = absurd (refused_or_over command line rule a r end.0)
+    network_owed command Memory end read line rule r = inr refl
+
+    -- which refusal of the report
+    report_owed : (command : Command) (status : Status) → EndsAs files left before now command status → (status ≡ ReadFault → ⊥) →
+        (line : ℕ) (rule : BoundRule) → RefusesReport files command line rule → (status ≡ ReportRefused line rule) ⊎ (status ≡ Memory)
+    report_owed (Replay places b) status end read line rule r = absurd r
+    report_owed (Check places report) Done end read line rule r = absurd (check_or_refused places report verdict.Valid line rule end.can r)
+    report_owed (Check places report) (Invalid broken) end read line rule r = absurd (check_or_refused places report (verdict.Invalid broken end.0) line rule end.1.can r)
+    report_owed (Check places report) Usage end read line rule r = absurd end
+    report_owed (Check places report) ReadFault end read line rule r = absurd (read refl)
+    report_owed (Check places report) WriteFault end read line rule r = absurd (check_or_refused places report end.verdict line rule end.can r)
+    report_owed (Check places report) (NetworkRefused other rival) end read line rule r = absurd (can_or_refused places other rival r.0 end)
+    report_owed (Check places report) (ReportRefused other rival) end read line rule r =
+        inl (report_refused_once report end.0.parts r.0.parts other line rival rule (same_parts places.net end.0.parts r.0.parts end.0.network r.0.network) end.1 r.1)
+    report_owed (Check places report) (Limit a) end read line rule r = absurd (refused_or_long places report line rule a r end.0)
+    report_owed (Check places report) Memory end read line rule r = inr refl
+
+    -- what completes a command
+    replay_completes : (places : Places) (b : Bool) (status : Status) → EndsAs files left before now (Replay places b) status → (status ≡ ReadFault → ⊥) → (status ≡ WriteFault → ⊥) →
+        CanReplay files places → (status ≡ Done) ⊎ (status ≡ Memory)
+    replay_completes places b Done end read write can = inl refl
+    replay_completes places b (Invalid rule) end read write can = absurd end
+    replay_completes places b Usage end read write can = absurd end
+    replay_completes places b ReadFault end read write can = absurd (read refl)
+    replay_completes places b WriteFault end read write can = absurd (write refl)
+    replay_completes places b (NetworkRefused line rule) end read write can = absurd (can_or_refused places line rule can end)
+    replay_completes places b (ReportRefused line rule) end read write can = absurd end
+    replay_completes places b (Limit which) end read write can = absurd (replay_or_over places b which can end.0)
+    replay_completes places b Memory end read write can = inr refl
+
+    check_completes : (places : Places) (report : List ℕ) (status : Status) → EndsAs files left before now (Check places report) status → (status ≡ ReadFault → ⊥) → (status ≡ WriteFault → ⊥) →
+        (v : Verdict) → CanCheck files places report v → (status ≡ status_of v) ⊎ (status ≡ Memory)
+    check_completes places report Done end read write v can = inl (ap status_of (one_check places report verdict.Valid v end.can can))
+    check_completes places report (Invalid rule) end read write v can = inl (ap status_of (one_check places report (verdict.Invalid rule end.0) v end.1.can can))
+    check_completes places report Usage end read write v can = absurd end
+    check_completes places report ReadFault end read write v can = absurd (read refl)
+    check_completes places report WriteFault end read write v can = absurd (write refl)
+    check_completes places report (NetworkRefused line rule) end read write v can = absurd (can_or_refused places line rule (can_of places report v can) end)
+    check_completes places report (ReportRefused line rule) end read write v can = absurd (check_or_refused places report v line rule can end)
+    check_completes places report (Limit which) end read write v can = absurd (check_or_over places report v which can end.0)
+    check_completes places report Memory end read write v can = inr refl
+
+    completes : (command : Command) (status : Status) → EndsAs files left before now command status → (status ≡ ReadFault → ⊥) → (status ≡ WriteFault → ⊥) → Completes files command status
+    completes (Replay places b) status end read write = replay_completes places b status end read write
+    completes (Check places report) status end read write = check_completes places report status end read write
+
+-- a run that ends so is complete
+pub end_complete : (files : Option Files) (left before now : Option (List ℕ)) (command : Option Command) (status : Status) →
+    IsEnd files left before now command status → (status ≡ ReadFault → ⊥) → (status ≡ WriteFault → ⊥) → IsComplete files command status
+end_complete None left before now command status end read write = tt
+end_complete (Some files) left before now None status end read write = tt
+end_complete (Some files) left before now (Some command) status end read write = completes files left before now command status end read write
+
+-- and answers what is owed
+pub end_due : (files : Option Files) (left before now : Option (List ℕ)) (command : Option Command) (status : Status) →
+    IsEnd files left before now command status → (status ≡ ReadFault → ⊥) → IsDue files command status
+end_due None left before now command status end read = tt
+end_due (Some files) left before now None status end read = tt
+end_due (Some files) left before now (Some command) status end read = record {
+  over = over_owed files left before now command status end read;
+  network = network_owed files left before now command status end read;
+  report = report_owed files left before now command status end read;
+}

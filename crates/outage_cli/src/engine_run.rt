@@ -1,0 +1,92 @@
+//! From the files of a network and its events to the engine after them.
+ghost use Rattle.std.specs.Prelude.{◌≡◌, ◌≤◌, ◌<◌, Bool, Some, IfOk, IfErr, IsErrOf};
+ghost use Rattle.outage_ports.specs.Causes.{Rose};
+ghost use Rattle.outage_engine.specs.Engined.{IsEngine};
+ghost use Rattle.outage_cli.specs.Form.{Replay};
+ghost use Rattle.outage_cli.specs.Places.{places_view};
+ghost use Rattle.outage_cli.specs.Run.{IsSilentReplay};
+ghost use Rattle.outage_cli.specs.Ended.{IsEnd, DidRun, DidSayNetwork, IsNetworkStop};
+
+use crate::reading::{EventsStop, run_events};
+use crate::whole::{MOST_NETWORK, Stop, read_whole};
+use crate::words::Places;
+use crate::{Status, Which};
+use grid_model::Grid;
+use grid_reader::{GridFault, read_grid};
+use outage_engine::Engine;
+use outage_ports::{Shelf, Sink};
+use std::alloc::Global;
+
+// The network of a file.
+fn read_network<S: Shelf>(alloc: Global, name: &str, shelf: &mut S) -> Result<Grid, Status>
+    requires allowed { S.allows name.now }
+    ensures files { S.files shelf.new ≡ S.files shelf.old }
+    ensures network { IfOk result (DidSayNetwork (S.files shelf.old) name.now) }
+    ensures stopped { IfErr result (IsNetworkStop (S.files shelf.old) name.now) }
+    ensures not_done { IsErrOf result Status.Done → ⊥ }
+    ensures no_usage { IsErrOf result Status.Usage → ⊥ }
+    ensures no_write { IsErrOf result Status.WriteFault → ⊥ }
+    ensures shelf_later { S.faults shelf.old ≤ S.faults shelf.new }
+    ensures read { IsErrOf result Status.ReadFault → Rose (S.faults shelf.old) (S.faults shelf.new) }
+    ensures read_risen { S.faults shelf.old < S.faults shelf.new → IsErrOf result Status.ReadFault }
+{
+    let text = match read_whole(alloc, shelf, name, MOST_NETWORK) {
+        Ok(text) => text,
+        Err(Stop::Failed) => return Err(Status::ReadFault),
+        Err(Stop::TooLong) => return Err(Status::Limit {
+            which: Which::NetworkBytes,
+        }),
+        Err(Stop::Memory) => return Err(Status::Memory),
+    };
+    match read_grid(alloc, &text) {
+        Ok(grid) => Ok(grid),
+        Err(GridFault::Refused { line, rule }) => Err(Status::NetworkRefused { line, rule }),
+        Err(GridFault::Memory) => Err(Status::Memory),
+    }
+}
+
+/// The engine after all events: reads the network whole, and then the events in pieces, whose
+/// entries it writes. Where it stops before their end, the error is the status of a replay that
+/// ends there.
+pub(crate) fn run_engine<S: Shelf, K: Sink>(
+    alloc: Global,
+    places: Places<'_>,
+    shelf: &mut S,
+    out: &mut K,
+) -> Result<Engine, Status>
+    requires net { S.allows places.net.now }
+    requires events { S.allows places.events.now }
+    ensures files { S.files shelf.new ≡ S.files shelf.old }
+    ensures engine { IfOk result IsEngine }
+    ensures ran { IfOk result (DidRun (S.files shelf.old) (places_view places.entry) (S.left shelf.new) (K.written out.old) (K.written out.new)) }
+    ensures stopped { IfErr result (λ status. (with_bounds : Bool) → IsEnd (S.files shelf.old) (S.left shelf.new) (K.written out.old) (K.written out.new) (Some (Replay (places_view places.entry) with_bounds)) status) }
+    ensures not_done { IsErrOf result Status.Done → ⊥ }
+    ensures no_usage { IsErrOf result Status.Usage → ⊥ }
+    ensures idle { IfErr result (λ status. IsSilentReplay status → out.new ≡ out.old) }
+    ensures shelf_later { S.faults shelf.old ≤ S.faults shelf.new }
+    ensures read { IsErrOf result Status.ReadFault → Rose (S.faults shelf.old) (S.faults shelf.new) }
+    ensures read_risen { S.faults shelf.old < S.faults shelf.new → IsErrOf result Status.ReadFault }
+    ensures out_later { K.faults out.old ≤ K.faults out.new }
+    ensures write { IsErrOf result Status.WriteFault → Rose (K.faults out.old) (K.faults out.new) }
+    ensures write_risen { K.faults out.old < K.faults out.new → IsErrOf result Status.WriteFault }
+{
+    let grid = match read_network(alloc, places.net, shelf) {
+        Ok(grid) => grid,
+        Err(status) => return Err(status),
+    };
+    let Ok(mut engine) = Engine::new(alloc, grid) else {
+        return Err(Status::Memory);
+    };
+    match run_events(alloc, shelf, places.events, &mut engine, out) {
+        Ok(()) => Ok(engine),
+        Err(EventsStop::ReadFailed) => Err(Status::ReadFault),
+        Err(EventsStop::WriteFailed) => Err(Status::WriteFault),
+        Err(EventsStop::TooManyLines) => Err(Status::Limit {
+            which: Which::EventLines,
+        }),
+        Err(EventsStop::TooManyBytes) => Err(Status::Limit {
+            which: Which::EventBytes,
+        }),
+        Err(EventsStop::Memory) => Err(Status::Memory),
+    }
+}

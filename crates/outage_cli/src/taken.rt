@@ -1,0 +1,180 @@
+//! The lines that a run has taken.
+ghost use Rattle.std.specs.Prelude.{◌≡◌, ◌≤◌, ◌<◌, ◌+◌, ◌++◌, ◌∷◌, [], ℕ, List, length, OnOk, IsErrOf};
+ghost use Rattle.grid_model.specs.declared.history.Event.{Event};
+ghost use Rattle.event_rules.specs.Lines.{most_line};
+ghost use Rattle.history_rules.specs.Posed.{IsOfGrid, refusal_of, joined};
+ghost use Rattle.history_rules.specs.Run.{outcome_by};
+ghost use Rattle.history_rules.specs.Output.{entry, refused_row};
+ghost use Rattle.outage_engine.specs.Engined.{Engined, IsEngineAfter, IsEngine};
+ghost use Rattle.outage_cli.specs.Entered.{rule_of};
+ghost use Rattle.outage_cli.specs.Pieces.{HasTaken, HasTakenSome, IsOneTooMany};
+
+use crate::entries::{LineRule, put_changes, put_refused, rule_in};
+use event_reader::read_event;
+use event_rules::ReadRule;
+use grid_model::Event;
+use history_rules::run_of_parts;
+use outage_engine::Engine;
+use std::alloc::{AllocError, Global};
+
+/// The greatest number of event lines that aren't skipped.
+pub(crate) const MOST_EVENT_LINES: u32 = 2_000_000;
+
+/// Why a run stops at a line.
+#[derive(Clone, Copy, Debug, PartialEq, Eq)]
+pub(crate) enum LineStop {
+    /// It is one more than may count.
+    TooMany,
+    /// Memory ran out.
+    Memory,
+}
+
+impl From<AllocError> for LineStop {
+    ghost use Rattle.std.specs.Prelude.{◌≡◌};
+    ghost use Rattle.outage_cli.specs.declared.taken.LineStop.TheVariants.{Memory};
+
+    ghost from_gives = { λ _ stop. stop ≡ Memory };
+
+    fn from(_: AllocError) -> LineStop {
+        LineStop::Memory
+    }
+}
+
+/// The number of lines so far, of those that aren't skipped, and the entries that aren't written yet.
+#[derive(Drop)]
+pub(crate) struct Taken {
+    pub(crate) number: u32,
+    pub(crate) counted: u32,
+    pub(crate) entries: Vec<u8>,
+}
+
+impl Taken {
+    /// No lines.
+    pub(crate) fn new(alloc: Global) -> Taken
+        ensures number { result.number ≡ 0 }
+        ensures counted { result.counted ≡ 0 }
+        ensures entries { result.entries.items ≡ [] }
+    {
+        Taken {
+            number: 0,
+            counted: 0,
+            entries: Vec::new(alloc),
+        }
+    }
+
+    // Numbers and counts the next line, which isn't skipped.
+    fn count(&mut self) -> Result<(), LineStop>
+        requires room { self.old.number < 4_294_967_295 }
+        ensures number { OnOk result (self.new.number ≡ self.old.number + 1) }
+        ensures counted { OnOk result (self.new.counted ≡ self.old.counted + 1) }
+        ensures few { OnOk result (self.new.counted ≤ 2_000_000) }
+        ensures same { OnOk result (self.new.entries ≡ self.old.entries) }
+        ensures many { IsErrOf result LineStop.TooMany → 2_000_000 ≤ self.old.counted }
+        ensures kept { IsErrOf result LineStop.TooMany → self.new ≡ self.old }
+        ensures no_memory { IsErrOf result LineStop.Memory → ⊥ }
+    {
+        if self.counted >= MOST_EVENT_LINES {
+            return Err(LineStop::TooMany);
+        }
+        self.number += 1;
+        self.counted += 1;
+        Ok(())
+    }
+
+    // Takes a line that is refused.
+    fn take_refused(&mut self, rule: LineRule) -> Result<(), LineStop>
+        requires room { self.old.number < 4_294_967_295 }
+        ensures number { OnOk result (self.new.number ≡ self.old.number + 1) }
+        ensures counted { OnOk result (self.new.counted ≡ self.old.counted + 1) }
+        ensures few { OnOk result (self.new.counted ≤ 2_000_000) }
+        ensures printed { OnOk result (self.new.entries.items ≡ self.old.entries.items ++ refused_row (self.old.number + 1) (rule_of rule)) }
+        ensures many { IsErrOf result LineStop.TooMany → 2_000_000 ≤ self.old.counted }
+        ensures kept { IsErrOf result LineStop.TooMany → self.new ≡ self.old }
+    {
+        self.count()?;
+        put_refused(&mut self.entries, self.number, rule)?;
+        Ok(())
+    }
+
+    // Takes the event of a line.
+    fn take_event(&mut self, engine: &mut Engine, event: Event) -> Result<(), LineStop>
+        requires engine { IsEngine engine.old }
+        requires of_grid { IsOfGrid engine.old.grid event.what }
+        requires range { event.time.0 ≤ 253_402_300_799 }
+        requires applied { engine.old.field.applied < 2_000_001 }
+        requires room { self.old.number < 4_294_967_295 }
+        ensures number { OnOk result (self.new.number ≡ self.old.number + 1) }
+        ensures counted { OnOk result (self.new.counted ≡ self.old.counted + 1) }
+        ensures few { OnOk result (self.new.counted ≤ 2_000_000) }
+        ensures printed { OnOk result ((h : List Event) → IsEngineAfter h engine.old →
+            self.new.entries.items ≡ self.old.entries.items ++ entry engine.old.grid (self.old.number + 1) h (outcome_by event (refusal_of engine.old.grid h event))) }
+        ensures after { OnOk result ((h : List Event) → IsEngineAfter h engine.old → IsEngineAfter (joined engine.old.grid h event) engine.new) }
+        ensures grid { engine.new.grid ≡ engine.old.grid }
+        ensures engine { IsEngine engine.new }
+        ensures many { IsErrOf result LineStop.TooMany → 2_000_000 ≤ self.old.counted }
+        ensures kept { IsErrOf result LineStop.TooMany → self.new ≡ self.old }
+    {
+        self.count()?;
+        let number = self.number;
+        match engine.apply(event) {
+            Ok(applied) => {
+                let (grid, judged) = (engine.grid(), engine.judged());
+                put_changes(&mut self.entries, number, grid, judged, applied)?;
+                Ok(())
+            }
+            Err(rule) => {
+                put_refused(&mut self.entries, number, LineRule::Unapplied(rule))?;
+                Ok(())
+            }
+        }
+    }
+
+    /// Takes a line.
+    pub(crate) fn take_line(
+        &mut self,
+        alloc: Global,
+        engine: &mut Engine,
+        line: &[u8],
+    ) -> Result<(), LineStop>
+        requires taken { HasTakenSome self.old engine.old }
+        requires room { self.old.number < 4_294_967_295 }
+        ensures taken { OnOk result ((lines : List (List ℕ)) (written : List ℕ) → HasTaken lines written self.old engine.old → HasTaken (lines ++ line.now ∷ []) written self.new engine.new) }
+        ensures number { OnOk result (self.new.number ≤ self.old.number + 1) }
+        ensures many { IsErrOf result LineStop.TooMany → IsOneTooMany self.old line.now }
+        ensures kept { IsErrOf result LineStop.TooMany → self.new ≡ self.old }
+        ensures grid { engine.new.grid ≡ engine.old.grid }
+        ensures engine { IsEngine engine.new }
+    {
+        run_of_parts();
+        match read_event(alloc, engine.grid(), line) {
+            Ok(None) => {
+                self.number += 1;
+                Ok(())
+            }
+            Ok(Some(event)) => {
+                self.take_event(engine, event)?;
+                Ok(())
+            }
+            Err(refusal) => match rule_in(refusal) {
+                Some(rule) => {
+                    self.take_refused(LineRule::Unread(rule))?;
+                    Ok(())
+                }
+                None => Err(LineStop::Memory),
+            },
+        }
+    }
+
+    /// Takes a line that is too long.
+    pub(crate) fn take_too_long(&mut self) -> Result<(), LineStop>
+        requires room { self.old.number < 4_294_967_295 }
+        ensures taken { OnOk result ((e : Engined) (lines : List (List ℕ)) (line written : List ℕ) → most_line < length line → HasTaken lines written self.old e → HasTaken (lines ++ line ∷ []) written self.new e) }
+        ensures number { OnOk result (self.new.number ≤ self.old.number + 1) }
+        ensures many { IsErrOf result LineStop.TooMany → (line : List ℕ) → most_line < length line → IsOneTooMany self.old line }
+        ensures kept { IsErrOf result LineStop.TooMany → self.new ≡ self.old }
+    {
+        run_of_parts();
+        self.take_refused(LineRule::Unread(ReadRule::TooLong))?;
+        Ok(())
+    }
+}

@@ -1,0 +1,6 @@
+pub mod BoundingLists
+pub mod BoundingRows
+pub mod BoundingRange
+pub mod AfterEvents
+pub mod NoEvents
+pub mod SmallGrid

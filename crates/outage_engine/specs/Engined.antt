@@ -1,0 +1,31 @@
+-- The whole state after events: the field, and the judgement of it.
+use Rattle.std.specs.Prelude.{◌≡◌, List, Option, Some, None, Result, Ok, Err}
+use Rattle.grid_model.specs.Parts.{Parts}
+use Rattle.grid_model.specs.declared.history.Event.{Event}
+use Rattle.grid_model.specs.declared.history.Refusal.{Refusal}
+use Rattle.history_rules.specs.Posed.{problem_after, least_after, diagnosis_after, joined}
+use Rattle.diagnosis.specs.Judgement.{Judgement, IsJudged, IsOfNetwork, opened_by}
+use Rattle.field_state.specs.Fielded.{Fielded, IsFieldAfter}
+use Rattle.outage_engine.specs.declared.Applied.{Applied}
+
+pub record Engined : Type 0 where
+  pub grid : Parts
+  pub field : Fielded
+  pub judged : Judgement
+
+-- the field is that of the events, and the judgement that of the problem that they pose: its devices are the diagnosis, and its cost is the least
+pub record IsEngineAfter (h : List Event) (e : Engined) : Type 0 where
+  pub field : IsFieldAfter e.grid h e.field
+  pub own : IsOfNetwork e.grid e.judged
+  pub judged : IsJudged (problem_after e.grid h) e.judged
+  pub opened : opened_by e.judged ≡ diagnosis_after e.grid h
+  pub cost : e.judged.cost ≡ least_after e.grid h
+
+-- the engine is that after some events
+abbrev pub IsEngine : Engined → Type 0
+IsEngine e = (h : List Event) × IsEngineAfter h e
+
+-- the answer to an event after these: the rule that refuses it, or the least cost before and after it
+abbrev pub answer_by : Parts → List Event → Event → Option Refusal → Result Applied Refusal
+answer_by g h e None = Ok (record { cost_before = least_after g h; cost_after = least_after g (joined g h e) })
+answer_by g h e (Some rule) = Err rule

@@ -1,0 +1,3 @@
+pub mod Engined
+pub mod EngineInside
+pub mod Bounding

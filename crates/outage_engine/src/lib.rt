@@ -1,0 +1,17 @@
+//! The whole state behind one call: the field after events, and the diagnosis of it.
+#![tactic(auto)]
+
+mod bounds;
+mod engine;
+
+pub use engine::Engine;
+
+#[cfg(test)]
+mod tests;
+
+/// The least cost before an event and after it.
+#[derive(Clone, Copy, Debug, PartialEq, Eq)]
+pub struct Applied {
+    pub cost_before: u64,
+    pub cost_after: u64,
+}
