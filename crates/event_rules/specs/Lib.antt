@@ -4,3 +4,4 @@ pub mod Rows
 pub mod Decimals
 pub mod Stamps
 pub mod EventLines
+pub mod Fractions

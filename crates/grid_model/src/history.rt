@@ -75,3 +75,10 @@ pub struct Outage {
     pub since: Option<Stamp>,
     pub nested: bool,
 }
+
+/// The time from a second on, up to another one that isn't included, if there is one.
+#[derive(Clone, Copy, Debug, PartialEq, Eq)]
+pub struct Period {
+    pub from: Stamp,
+    pub until: Option<Stamp>,
+}

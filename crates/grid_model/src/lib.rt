@@ -10,7 +10,7 @@ mod names;
 mod parts;
 
 pub use grid::Grid;
-pub use history::{Confirmed, Event, Line, Mark, Outage, Refusal, Stamp, Want, What};
+pub use history::{Confirmed, Event, Line, Mark, Outage, Period, Refusal, Stamp, Want, What};
 pub use laws::{network_is_sound, problem_is_sound, starting_network};
 pub use name::Name;
 pub use names::Names;

@@ -6,7 +6,16 @@ pub mod SoundLemmas
 pub mod RunLemmas
 pub mod LineLemmas
 pub mod RuleLemmas
+pub mod ReportRows
+pub mod RefusedLines
 pub mod ShownLemmas
 pub mod CivilDays
 pub mod StampReading
+pub mod LedgerLemmas
+pub mod PeriodLemmas
+pub mod CrewLemmas
+pub mod Chains
+pub mod OutageLists
+pub mod OutageTops
+pub mod OrderableLemmas
 mod Example

@@ -1,10 +1,9 @@
 -- The printed rows show the diagnosis.
-use Rattle.std.proofs.Common.{◌≡◌, ◌≢◌, ℕ, zero, suc, ◌+◌, ◌/◌, ◌%◌, ◌<◌, ◌≤◌, Bool, true, false, List, [], ◌∷◌, ◌++◌, refl, sym, ap, ◌∙◌, subst, length, arith, ⊎_elim, append_assoc}
+use Rattle.std.proofs.Common.{◌≡◌, ◌≢◌, ℕ, zero, suc, ◌+◌, ◌<◌, ◌≤◌, Bool, true, false, List, [], ◌∷◌, ◌++◌, refl, sym, ap, ◌∙◌, subst, length, arith, ⊎_elim, append_assoc}
 use Rattle.std.specs.Prelude.{◌==◌, ◌&&◌, not, nat_le, codes, decimal, flat_map, if◌then◌else◌}
 use Rattle.std.specs.List.{list_all, join_with_byte, range_with_len}
 use Rattle.std.specs.Str.{bytes_eq}
-use Rattle.std.specs.Fmt.{digits, digits_onto, digit_glyph}
-use Rattle.std.proofs.lemmas.Bool.{cases_eq, false≢true, and_parts, and_from, not-true, not_from_false, ne_eqb, le-leb, lt-ltb, cases_lt, false_from_ne_true}
+use Rattle.std.proofs.lemmas.Bool.{cases_eq, false≢true, and_parts, and_from, not-true, not_from_false, ne_eqb, cases_lt, false_from_ne_true}
 use Rattle.std.proofs.lemmas.List.{append-nil, get_or-map, length-map}
 use Rattle.std.proofs.lemmas.List.Folds.{list_all-append}
 use Rattle.std.proofs.lemmas.Slice.Eq.{bytes_eq-Decides}
@@ -17,6 +16,7 @@ use Rattle.grid_model.specs.Names.{name_eq}
 use Rattle.grid_model.specs.Places.{no_device, device_at, node_of}
 use Rattle.grid_model.specs.Sound.{IsSoundParts}
 use Rattle.grid_model.specs.declared.history.Event.{Event}
+use Rattle.grid_model.specs.declared.history.Period.{Period}
 use Rattle.grid_model.specs.declared.history.Refusal.TheVariants.{Backwards, NotClosed, Loop}
 use Rattle.event_rules.specs.declared.read_rule.ReadRule.TheVariants.{TooLong, BadFields, BadWord, BadTime, BadName, UnknownMeter, UnknownDevice}
 use Rattle.event_rules.specs.Lines.{begins_with, in_front, lines_with, lines}
@@ -24,9 +24,11 @@ use Rattle.event_rules.specs.Fields.{parts_from, between_commas}
 use Rattle.event_rules.specs.Rows.{row}
 use Rattle.history_rules.specs.Posed.{problem_after, least_after, diagnosis_after}
 use Rattle.history_rules.specs.Run.{LineRule, Unread, Unapplied, Outcome, Skips, Refuses, Applies, outcome_of, history_by, history_in, history_of}
-use Rattle.history_rules.specs.Output.{rule_word, cost_row, change_rows, changes, refused_row, entry, entries, report, replay_text}
+use Rattle.history_rules.specs.Output.{rule_word, cost_row, change_rows, changes, refused_row, entry, entries, replay_text}
+use Rattle.history_rules.specs.Report.{refused_in, report_text}
 use Rattle.history_rules.specs.Shown.{shown_by, shown_after, is_shown, DiagnosisIsPrinted}
 use Rattle.history_rules.proofs.SoundLemmas.{history_is_diagnosed}
+use Rattle.history_rules.proofs.ReportRows.{RowSort, ReportRow, CountsRow, TotalRow, OutageRow, CrewRow, UnexplainedRow, LineRow, IndexRow, EndRow, first_word, is_row_word, AreRowWords, decimal_fits, report_is}
 
 -- neither an LF nor a CR, nor a comma
 abbrev is_inner : ℕ → Bool
@@ -56,25 +58,17 @@ plain_name name e =
     let b = and_parts (nat_le 1 (length name) && nat_le (length name) 32) (list_all is_name_byte name) a.0 in
     all_from is_name_byte is_plain (plain_from is_name_byte refl refl refl) name b.1
 
-plain_glyph : (k : ℕ) → k < 10 → is_plain (digit_glyph false k) ≡ true
-plain_glyph k l =
-    subst (λ b. is_plain (if b then 48 + k else 87 + k) ≡ true) (sym (lt-ltb k 10 l))
-    (plain_from (λ b. nat_le 48 b) refl refl refl (48 + k) (le-leb 48 (48 + k) (omega arith)))
+-- so are the words of a report
+plain_word : (word : List ℕ) → is_row_word word ≡ true → are_plain word ≡ true
+plain_word word e = all_from (nat_le 45) is_plain (plain_from (nat_le 45) refl refl refl) word e
 
-plain_digits : (k n : ℕ) (behind : List ℕ) → are_plain behind ≡ true → are_plain (digits_onto k 10 false n behind) ≡ true
-plain_digits zero n behind e = e
-plain_digits (suc k) n behind e =
-    let more : are_plain (digit_glyph false (n % 10) ∷ behind) ≡ true = and_from (is_plain (digit_glyph false (n % 10))) (are_plain behind) (plain_glyph (n % 10) (omega arith)) e in
-    either (n / 10 == 0) (digit_glyph false (n % 10) ∷ behind) (digits_onto k 10 false (n / 10) (digit_glyph false (n % 10) ∷ behind)) more
-    (plain_digits k (n / 10) (digit_glyph false (n % 10) ∷ behind) more)
-  where
-    either : (b : Bool) (x y : List ℕ) → are_plain x ≡ true → are_plain y ≡ true → are_plain (if b then x else y) ≡ true
-    either true x y first second = first
-    either false x y first second = second
+plain_words : (words : List (List ℕ)) → list_all is_row_word words ≡ true → list_all are_plain words ≡ true
+plain_words [] e = refl
+plain_words (word ∷ words) e =
+    let both = and_parts (is_row_word word) (list_all is_row_word words) e in and_from (are_plain word) (list_all are_plain words) (plain_word word both.0) (plain_words words both.1)
 
 plain_decimal : (n : ℕ) → are_plain (decimal n) ≡ true
-unfolding digits
-plain_decimal n = plain_digits 64 n [] refl
+plain_decimal n = plain_word (decimal n) (decimal_fits n)
 
 -- words with commas between them are one line
 inner_join : (word : List ℕ) (words : List (List ℕ)) → list_all are_plain (word ∷ words) ≡ true → list_all is_inner (join_with_byte 44 (word ∷ words)) ≡ true
@@ -134,18 +128,42 @@ three_plain : (a b c : List ℕ) → are_plain a ≡ true → are_plain b ≡ tr
 three_plain a b c x y z = and_from (are_plain a) (are_plain b && (are_plain c && true)) x (and_from (are_plain b) (are_plain c && true) y (and_from (are_plain c) true z refl))
 
 -- a row with another word shows nothing
-other_row : (name : List ℕ) (before : Bool) (word second third behind : List ℕ) → are_plain word ≡ true → are_plain second ≡ true → are_plain third ≡ true →
-    bytes_eq word (codes "enters") ≡ false → bytes_eq word (codes "leaves") ≡ false →
-    shown_after name before (lines (row (word ∷ second ∷ third ∷ []) ++ behind)) ≡ shown_after name before (lines behind)
-other_row name before word second third behind x y z enters leaves =
-    row_shows name before word (second ∷ third ∷ []) behind (three_plain word second third x y z)
-    ∙ ap (λ b. shown_after name b (lines behind)) (as_before (name_eq name third) (bytes_eq word (codes "enters")) (bytes_eq word (codes "leaves")) before enters leaves)
+shown_by_other : (name : List ℕ) (before : Bool) (word : List ℕ) (words : List (List ℕ)) → bytes_eq word (codes "enters") ≡ false → bytes_eq word (codes "leaves") ≡ false →
+    shown_by name (word ∷ words) before ≡ before
+shown_by_other name before word [] enters leaves = refl
+shown_by_other name before word (second ∷ []) enters leaves = refl
+shown_by_other name before word (second ∷ third ∷ []) enters leaves = as_before (name_eq name third) (bytes_eq word (codes "enters")) (bytes_eq word (codes "leaves")) enters leaves
   where
-    as_before : (named a b before : Bool) → a ≡ false → b ≡ false → (if named then (if a then true else (if b then false else before)) else before) ≡ before
-    as_before false a b before x y = refl
-    as_before true true b before x y = absurd (false≢true (sym x))
-    as_before true false true before x y = absurd (false≢true (sym y))
-    as_before true false false before x y = refl
+    as_before : (named a b : Bool) → a ≡ false → b ≡ false → (if named then (if a then true else (if b then false else before)) else before) ≡ before
+    as_before false a b x y = refl
+    as_before true true b x y = absurd (false≢true (sym x))
+    as_before true false true x y = absurd (false≢true (sym y))
+    as_before true false false x y = refl
+shown_by_other name before word (second ∷ third ∷ fourth ∷ words) enters leaves = refl
+
+-- nor does a text of such rows, before any other
+abbrev ShowsNothing : List ℕ → List ℕ → Type 0
+ShowsNothing name text = (before : Bool) (behind : List ℕ) → shown_after name before (lines (text ++ behind)) ≡ shown_after name before (lines behind)
+
+other_row : (name word : List ℕ) (words : List (List ℕ)) → list_all are_plain (word ∷ words) ≡ true → bytes_eq word (codes "enters") ≡ false → bytes_eq word (codes "leaves") ≡ false →
+    ShowsNothing name (row (word ∷ words))
+other_row name word words plain enters leaves before behind =
+    row_shows name before word words behind plain ∙ ap (λ b. shown_after name b (lines behind)) (shown_by_other name before word words enters leaves)
+
+two_texts : (name a b : List ℕ) → ShowsNothing name a → ShowsNothing name b → ShowsNothing name (a ++ b)
+two_texts name a b x y before behind = ap (λ t. shown_after name before (lines t)) (append_assoc a b behind) ∙ x before (b ++ behind) ∙ y before behind
+
+-- a row of a report is such a row
+report_row : (name : List ℕ) (sort : RowSort) (words : List (List ℕ)) → AreRowWords words → ShowsNothing name (row (first_word sort ∷ words))
+report_row name ReportRow words e = other_row name (codes "report") words (plain_words words e.all) refl refl
+report_row name CountsRow words e = other_row name (codes "counts") words (plain_words words e.all) refl refl
+report_row name TotalRow words e = other_row name (codes "total") words (plain_words words e.all) refl refl
+report_row name OutageRow words e = other_row name (codes "outage") words (plain_words words e.all) refl refl
+report_row name CrewRow words e = other_row name (codes "crew") words (plain_words words e.all) refl refl
+report_row name UnexplainedRow words e = other_row name (codes "unexplained") words (plain_words words e.all) refl refl
+report_row name LineRow words e = other_row name (codes "line") words (plain_words words e.all) refl refl
+report_row name IndexRow words e = other_row name (codes "index") words (plain_words words e.all) refl refl
+report_row name EndRow words e = other_row name (codes "end") words (plain_words words e.all) refl refl
 
 -- what a change row shows, by its word
 abbrev Marks : List ℕ → Bool → Type 0
@@ -265,26 +283,24 @@ plain_rule (Unapplied Backwards) = refl
 plain_rule (Unapplied NotClosed) = refl
 plain_rule (Unapplied Loop) = refl
 
+two_plain : (a b : List ℕ) → are_plain a ≡ true → are_plain b ≡ true → list_all are_plain (a ∷ b ∷ []) ≡ true
+two_plain a b x y = and_from (are_plain a) (are_plain b && true) x (and_from (are_plain b) true y refl)
+
 module _ (name : List ℕ) (before : Bool) where
   cost_shows : (line least after : ℕ) (behind : List ℕ) → shown_after name before (lines (cost_row line least after ++ behind)) ≡ shown_after name before (lines behind)
   cost_shows line least after behind = by (least == after)
     where
       by : (same : Bool) → shown_after name before (lines ((if same then [] else row (codes "cost" ∷ decimal line ∷ decimal after ∷ [])) ++ behind)) ≡ shown_after name before (lines behind)
       by true = refl
-      by false = other_row name before (codes "cost") (decimal line) (decimal after) behind refl (plain_decimal line) (plain_decimal after) refl refl
+      by false = other_row name (codes "cost") (decimal line ∷ decimal after ∷ []) (two_plain (decimal line) (decimal after) (plain_decimal line) (plain_decimal after)) refl refl before behind
 
   refused_shows : (line : ℕ) (rule : LineRule) (behind : List ℕ) → shown_after name before (lines (refused_row line rule ++ behind)) ≡ shown_after name before (lines behind)
-  refused_shows line rule behind = other_row name before (codes "refused") (decimal line) (rule_word rule) behind refl (plain_decimal line) (plain_rule rule) refl refl
+  refused_shows line rule behind =
+      other_row name (codes "refused") (decimal line ∷ rule_word rule ∷ []) (two_plain (decimal line) (rule_word rule) (plain_decimal line) (plain_rule rule)) refl refl before behind
 
   at_end : shown_after name before (lines []) ≡ before
   unfolding shown_after lines
   at_end = refl
-
-  report_shows : (g : Parts) (h : List Event) → shown_after name before (lines (report g h)) ≡ before
-  report_shows g h =
-      row_shows name before (codes "total") (decimal (least_after g h) ∷ []) (row (codes "end" ∷ [])) (and_from (are_plain (decimal (least_after g h))) true (plain_decimal (least_after g h)) refl)
-      ∙ ap (λ t. shown_after name before (lines t)) (sym (append-nil (row (codes "end" ∷ []))))
-      ∙ row_shows name before (codes "end") [] [] refl ∙ at_end
 
 module _ (g : Parts) (sound : IsSoundParts g) (d : ℕ) (within : d < length g.devices) where
   changes_show : (line : ℕ) (h later : List Event) (behind : List ℕ) →
@@ -390,10 +406,19 @@ module _ (g : Parts) (sound : IsSoundParts g) where
     entries_printed events =
         ap (is_shown (name_of g d)) (sym (append-nil (entries g 1 [] events))) ∙ from_nothing events [] ∙ at_end (name_of g d) (diagnosis_after g (history_in g [] events) d)
 
-    replay_printed : (events : List ℕ) → is_shown (name_of g d) (replay_text g events) ≡ diagnosis_after g (history_of g events) d
+    report_shows : (period : Period) (refused : ℕ) (h : List Event) → ShowsNothing (name_of g d) (report_text g period refused h)
+    report_shows = report_is g sound.names (ShowsNothing (name_of g d)) (λ before behind. refl) (two_texts (name_of g d)) (report_row (name_of g d))
+
+    replay_printed : (period : Period) (events : List ℕ) → is_shown (name_of g d) (replay_text g period events) ≡ diagnosis_after g (history_of g events) d
     unfolding replay_text
-    replay_printed events =
-        from_nothing (lines events) (report g (history_of g events)) ∙ report_shows (name_of g d) (diagnosis_after g (history_of g events) d) g (history_of g events)
+    replay_printed period events =
+        let name = name_of g d in
+        let report = report_text g period (refused_in g [] (lines events)) (history_of g events) in
+        let after = diagnosis_after g (history_of g events) d in
+        from_nothing (lines events) report
+        ∙ ap (λ t. shown_after name after (lines t)) (sym (append-nil report))
+        ∙ report_shows period (refused_in g [] (lines events)) (history_of g events) after []
+        ∙ at_end name after
 
 pub diagnosis_is_printed : DiagnosisIsPrinted
 diagnosis_is_printed g d sound within = record { entries = entries_printed g sound d within; replay = replay_printed g sound d within }

@@ -1,14 +1,15 @@
 -- The ledger: which meters are judged dark after each event, and the interruptions that follow.
-use Rattle.std.specs.Prelude.{ℕ, Bool, true, false, not, List, [], ◌∷◌, ◌++◌, reverse, length, if◌then◌else◌, Option, Some, None, flat_map}
+use Rattle.std.specs.Prelude.{◌≤◌, ◌<◌, ◌*◌, ℕ, All, IfSome, Bool, true, false, not, List, [], ◌∷◌, ◌++◌, reverse, length, if◌then◌else◌, Option, Some, None, flat_map}
 use Rattle.std.specs.List.{range_with_len}
 use Rattle.outage_rules.specs.Network.{is_live}
 use Rattle.grid_model.specs.Parts.{Parts}
 use Rattle.grid_model.specs.Places.{node_of, meter_id}
+use Rattle.grid_model.specs.Sound.{IsSoundParts}
 use Rattle.grid_model.specs.declared.history.Event.{Event}
 use Rattle.grid_model.specs.declared.history.Stamp.{Stamp}
 use Rattle.grid_model.specs.declared.history.Line.{Line}
-use Rattle.history_rules.specs.State.{network_after}
-use Rattle.history_rules.specs.Posed.{diagnosis_after}
+use Rattle.history_rules.specs.State.{now, network_after}
+use Rattle.history_rules.specs.Posed.{IsHistory, diagnosis_after}
 
 -- the diagnosis of the events leaves the meter's node dark
 unfoldable pub is_judged_dark : Parts → ℕ → List Event → Bool
@@ -72,3 +73,18 @@ interrupted_of m dark (e ∷ h) = interrupted_by m e.time (dark (e ∷ h)) (dark
 -- the lines of a meter as they are kept, the open one last
 abbrev pub kept_lines : ℕ → Interrupted → List Line
 kept_lines m k = reverse (line_from m k.start None ++ k.ended)
+
+-- a line of this network that starts by now, and where it ended, did so by now and not before it started
+pub record IsLineBy (g : Parts) (now : ℕ) (l : Line) : Type 0 where
+  pub meter : l.meter.0 < length g.meters
+  pub start : l.start.0 ≤ now
+  pub end : IfSome l.end (λ t. (l.start.0 ≤ t.0) × (t.0 ≤ now))
+
+-- so is each line of a history, and no meter has more lines than there are events
+pub record IsLedgerOf (g : Parts) (h : List Event) : Type 0 where
+  pub lines : All (IsLineBy g (now h)) (ledger_after g h)
+  pub each : (m : ℕ) → length (lines_of g h m) ≤ length h
+  pub count : length (ledger_after g h) ≤ length g.meters * length h
+
+abbrev pub LedgerIsTimely : Type 0
+LedgerIsTimely = (g : Parts) (h : List Event) → IsSoundParts g → IsHistory g h → IsLedgerOf g h

@@ -10,4 +10,6 @@ pub mod Ledger
 pub mod RunLaws
 pub mod Shown
 pub mod StampTexts
+pub mod Indices
+pub mod Crew
 pub mod Report

@@ -7,12 +7,14 @@ use Rattle.grid_model.specs.Places.{device_at}
 use Rattle.grid_model.specs.declared.history.Event.{Event}
 use Rattle.grid_model.specs.declared.history.Refusal.{Refusal}
 use Rattle.grid_model.specs.declared.history.Refusal.TheVariants.{Backwards, NotClosed, Loop}
+use Rattle.grid_model.specs.declared.history.Period.{Period}
 use Rattle.event_rules.specs.declared.read_rule.ReadRule.{ReadRule}
 use Rattle.event_rules.specs.declared.read_rule.ReadRule.TheVariants.{TooLong, BadFields, BadWord, BadTime, BadName, UnknownMeter, UnknownDevice}
 use Rattle.event_rules.specs.Lines.{lines}
 use Rattle.event_rules.specs.Rows.{row}
 use Rattle.history_rules.specs.Posed.{least_after, diagnosis_after}
 use Rattle.history_rules.specs.Run.{LineRule, Unread, Unapplied, Outcome, Skips, Refuses, Applies, outcome_of, history_by, history_of}
+use Rattle.history_rules.specs.Report.{report_text, refused_in}
 
 abbrev pub read_rule_word : ReadRule → List ℕ
 read_rule_word TooLong = codes "TooLong"
@@ -63,10 +65,6 @@ entries g number h [] = []
 entries g number h (line ∷ rest) =
     entry g number h (outcome_of g h line) ++ entries g (number + 1) (history_by h (outcome_of g h line)) rest
 
--- what stands behind the entries
-abbrev pub report : Parts → List Event → List ℕ
-report g h = row (codes "total" ∷ decimal (least_after g h) ∷ []) ++ row (codes "end" ∷ [])
-
--- all that a replay of an event text prints, but for the bounds
-unfoldable pub replay_text : Parts → List ℕ → List ℕ
-replay_text g events = entries g 1 [] (lines events) ++ report g (history_of g events)
+-- all that a replay of an event text prints, but for the bounds: the entries, and then the report with the indices of a period
+unfoldable pub replay_text : Parts → Period → List ℕ → List ℕ
+replay_text g period events = entries g 1 [] (lines events) ++ report_text g period (refused_in g [] (lines events)) (history_of g events)

@@ -1,18 +1,23 @@
 -- The report of a replay.
-use Rattle.std.specs.Prelude.{ℕ, ◌+◌, ◌==◌, Bool, true, false, List, [], ◌∷◌, ◌++◌, length, if◌then◌else◌, Option, Some, None, flat_map, codes, decimal}
+use Rattle.std.specs.Prelude.{◌≡◌, ℕ, ◌+◌, ◌==◌, Bool, true, false, List, [], ◌∷◌, ◌++◌, length, if◌then◌else◌, Option, Some, None, flat_map, codes, decimal}
 use Rattle.std.specs.List.{range_with_len}
 use Rattle.grid_model.specs.Parts.{Parts}
 use Rattle.grid_model.specs.Places.{device_at, meter_at}
 use Rattle.grid_model.specs.declared.history.Event.{Event}
 use Rattle.grid_model.specs.declared.history.Line.{Line}
 use Rattle.grid_model.specs.declared.history.Outage.{Outage}
+use Rattle.grid_model.specs.declared.history.Period.{Period}
 use Rattle.grid_model.specs.declared.history.Stamp.{Stamp}
 use Rattle.event_rules.specs.Rows.{row}
+use Rattle.event_rules.specs.Fractions.{Ratio, ratio_words}
+use Rattle.history_rules.specs.State.{now}
 use Rattle.history_rules.specs.Evidence.{dark_weight, live_weight}
 use Rattle.history_rules.specs.Posed.{least_after, diagnosis_after}
-use Rattle.history_rules.specs.Run.{Outcome, Skips, Refuses, Applies, outcome_of, history_by}
+use Rattle.history_rules.specs.Run.{Outcome, Skips, Refuses, Applies, counted, outcome_of, history_by, history_in}
 use Rattle.history_rules.specs.Outages.{outages_after}
 use Rattle.history_rules.specs.Ledger.{is_judged_dark, ledger_after}
+use Rattle.history_rules.specs.Crew.{crew_order}
+use Rattle.history_rules.specs.Indices.{saifi, saidi, caidi, whole_period}
 use Rattle.history_rules.specs.StampTexts.{stamp_text}
 
 abbrev pub device_word : Parts → ℕ → List ℕ
@@ -61,16 +66,48 @@ end_word (Some t) = second_word t
 abbrev pub line_row : Parts → Line → List ℕ
 line_row g l = row (codes "line" ∷ meter_word g l.meter.0 ∷ second_word l.start ∷ end_word l.end ∷ [])
 
--- the report after events, of which so many lines were refused
-unfoldable pub report_text : Parts → ℕ → List Event → List ℕ
-report_text g refused h =
+-- the places of the outages in the order of crews, from a number on
+unfoldable pub crew_rows : Parts → ℕ → List Outage → List ℕ
+crew_rows g number [] = []
+crew_rows g number (o ∷ rest) = row (codes "crew" ∷ decimal number ∷ device_word g o.device.0 ∷ []) ++ crew_rows g (number + 1) rest
+
+-- an index as a fraction and as a decimal, or `none`
+abbrev pub index_words : Option Ratio → List (List ℕ)
+index_words None = codes "none" ∷ []
+index_words (Some r) = ratio_words r
+
+abbrev pub index_row : List ℕ → Option Ratio → List ℕ
+index_row name value = row (codes "index" ∷ name ∷ index_words value)
+
+-- the indices of a period, at a second
+unfoldable pub index_rows : Parts → Period → ℕ → List Line → List ℕ
+index_rows g period now lines =
+    index_row (codes "saifi") (saifi g period now lines)
+    ++ index_row (codes "saidi") (saidi g period now lines)
+    ++ index_row (codes "caidi") (caidi g period now lines)
+
+-- the first rows: the second of the last event, how many were applied and how many lines were refused, and the least cost
+unfoldable pub first_rows_after : Parts → ℕ → List Event → List ℕ
+first_rows_after g refused h =
     row (codes "report" ∷ now_word h ∷ [])
     ++ row (codes "counts" ∷ decimal (length h) ∷ decimal refused ∷ [])
     ++ row (codes "total" ∷ decimal (least_after g h) ∷ [])
+
+-- the report after events, where so many lines were refused, with the indices of a period
+unfoldable pub report_text : Parts → Period → ℕ → List Event → List ℕ
+report_text g period refused h =
+    first_rows_after g refused h
     ++ flat_map (outage_row g) (outages_after g h (diagnosis_after g h))
+    ++ crew_rows g 1 (crew_order (outages_after g h (diagnosis_after g h)))
     ++ flat_map (unexplained_row g h) (range_with_len 0 (length g.meters))
     ++ flat_map (line_row g) (ledger_after g h)
+    ++ index_rows g period (now h) (ledger_after g h)
     ++ row (codes "end" ∷ [])
+
+-- the same without what it says of single devices and meters
+unfoldable pub summary_text : Parts → ℕ → List Event → List ℕ
+summary_text g refused h =
+    first_rows_after g refused h ++ index_rows g whole_period (now h) (ledger_after g h) ++ row (codes "end" ∷ [])
 
 -- whether a line is refused, as a number
 abbrev pub refused_by : Outcome → ℕ
@@ -82,3 +119,7 @@ refused_by (Applies e) = 0
 unfoldable pub refused_in : Parts → List Event → List (List ℕ) → ℕ
 refused_in g h [] = 0
 refused_in g h (line ∷ rest) = refused_by (outcome_of g h line) + refused_in g (history_by h (outcome_of g h line)) rest
+
+-- each line that counts is refused, or its event joins the others
+abbrev pub RefusedAreTheRest : Type 0
+RefusedAreTheRest = (g : Parts) (h : List Event) (lines : List (List ℕ)) → length (counted lines) + length h ≡ refused_in g h lines + length (history_in g h lines)

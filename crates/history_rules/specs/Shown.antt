@@ -5,6 +5,7 @@ use Rattle.grid_model.specs.Parts.{Parts}
 use Rattle.grid_model.specs.Names.{name_eq}
 use Rattle.grid_model.specs.Places.{device_at}
 use Rattle.grid_model.specs.Sound.{IsSoundParts}
+use Rattle.grid_model.specs.declared.history.Period.{Period}
 use Rattle.event_rules.specs.Lines.{lines}
 use Rattle.event_rules.specs.Fields.{between_commas}
 use Rattle.history_rules.specs.Posed.{diagnosis_after}
@@ -29,7 +30,7 @@ is_shown name output = shown_after name false (lines output)
 -- a reader of the output, line by line, knows the diagnosis: what the rows show is what it opens
 pub record ShowsDiagnosis (g : Parts) (d : ℕ) : Type 0 where
   pub entries : (events : List (List ℕ)) → is_shown (device_at g d).name (entries g 1 [] events) ≡ diagnosis_after g (history_in g [] events) d
-  pub replay : (events : List ℕ) → is_shown (device_at g d).name (replay_text g events) ≡ diagnosis_after g (history_of g events) d
+  pub replay : (period : Period) (events : List ℕ) → is_shown (device_at g d).name (replay_text g period events) ≡ diagnosis_after g (history_of g events) d
 
 -- so it is of each device of the network
 abbrev pub DiagnosisIsPrinted : Type 0

@@ -3,6 +3,10 @@ ghost use Rattle.history_rules.specs.Laws.{EvidenceIsKept, WeightsStayUntilDue, 
 ghost use Rattle.history_rules.specs.RunLaws.{LinesFollowRules};
 ghost use Rattle.history_rules.specs.Shown.{DiagnosisIsPrinted};
 ghost use Rattle.history_rules.specs.StampTexts.{StampTextIsRead};
+ghost use Rattle.history_rules.specs.Ledger.{LedgerIsTimely};
+ghost use Rattle.history_rules.specs.Crew.{OutagesCanBeOrdered, CrewOrderIsSorted};
+ghost use Rattle.history_rules.specs.Indices.{PeriodsAddUp};
+ghost use Rattle.history_rules.specs.Report.{RefusedAreTheRest};
 
 /// The last signal of a meter, the last restoration after it and the last unanswered call tell what
 /// its reports weigh, since when it is dark, and whether it came back.
@@ -88,4 +92,30 @@ pub fn diagnosis_is_printed()
 /// The text of a second from 1970 to 9999 is read as that second.
 pub fn stamp_text_is_read()
     ensures { StampTextIsRead }
+{}
+
+/// The interruptions of a history start and end by its last event, and no meter has more of them than
+/// there are events.
+pub fn ledger_is_timely()
+    ensures { LedgerIsTimely }
+{}
+
+/// The outages of a history can be ordered: following the device above each of them ends.
+pub fn outages_can_be_ordered()
+    ensures { OutagesCanBeOrdered }
+{}
+
+/// The crew order has the same outages, sorted by the stated keys.
+pub fn crew_order_is_sorted()
+    ensures { CrewOrderIsSorted }
+{}
+
+/// What a period counts is what its two parts count.
+pub fn periods_add_up()
+    ensures { PeriodsAddUp }
+{}
+
+/// The lines that count are those refused and those whose event joined the others.
+pub fn refused_are_the_rest()
+    ensures { RefusedAreTheRest }
 {}

@@ -12,3 +12,5 @@ pub mod StampShapes
 pub mod StampDays
 pub mod StampTexts
 pub mod StampSpelling
+pub mod Divisors
+pub mod FractionTexts

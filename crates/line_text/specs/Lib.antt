@@ -4,3 +4,4 @@ pub mod Cutting
 pub mod Laws
 pub mod Dates
 pub mod StampText
+pub mod FractionInside

@@ -55,3 +55,14 @@ pub fn put_decimal(text: &mut Vec<u8>, number: u64) -> Result<(), AllocError>
     text.push(b'0' + (number % 10) as u8)?;
     Ok(())
 }
+
+/// Appends a number of up to 128 bits as its decimal.
+pub(crate) fn put_wide_decimal(text: &mut Vec<u8>, number: u128) -> Result<(), AllocError>
+    ensures { OnOk result (text.new.items ≡ text.old.items ++ decimal number) }
+{
+    if number >= 10 {
+        put_wide_decimal(text, number / 10)?;
+    }
+    text.push(b'0' + (number % 10) as u8)?;
+    Ok(())
+}

@@ -5,6 +5,7 @@ mod commas;
 mod cuts;
 mod cutter;
 mod decimals;
+mod fractions;
 mod laws;
 mod lines;
 mod row_fields;
@@ -15,6 +16,7 @@ pub use commas::Fields;
 pub use cuts::cut_at;
 pub use cutter::{Cut, LineCutter};
 pub use decimals::{put_decimal, read_decimal};
+pub use fractions::{Fraction, fractions_are_lowest, put_fraction};
 pub use laws::{
     decimal_has_one_spelling, decimal_is_read, lines_from_parts, stamp_has_one_spelling,
 };

@@ -4,8 +4,9 @@ ghost use Rattle.event_rules.specs.Lines.{lines, most_line};
 ghost use Rattle.line_text.specs.Cutting.{Tells};
 
 use crate::{
-    Cut, Fields, FieldsFault, LineCutter, MOST_LINE, RowFields, cut_at, fields, is_skipped_line,
-    lines_from_parts, next_line, put_decimal, put_stamp, read_decimal, read_stamp,
+    Cut, Fields, FieldsFault, Fraction, LineCutter, MOST_LINE, RowFields, cut_at, fields,
+    is_skipped_line, lines_from_parts, next_line, put_decimal, put_fraction, put_stamp,
+    read_decimal, read_stamp,
 };
 use grid_model::Stamp;
 use std::alloc::{AllocError, Global};
@@ -238,4 +239,19 @@ fn prints_a_time(rt: HostRuntime) {
     assert!(rt; text.as_slice() == b"2024-02-29T00:00:00Z".as_slice());
     let text = put_stamp(Stamp(253_402_300_799));
     assert!(rt; text.as_slice() == b"9999-12-31T23:59:59Z".as_slice());
+}
+
+#[test]
+fn prints_a_fraction(rt: HostRuntime) -> Result<(), AllocError> {
+    for (fraction, printed) in [
+        (Fraction::new(37, 47), "37/47,0.7872"),
+        (Fraction::new(60, 7), "60/7,8.5714"),
+        (Fraction::new(301, 60), "301/60,5.0166"),
+        (Fraction::new(0, 40), "0/1,0.0000"),
+        (Fraction::new(90, 3), "30/1,30.0000"),
+    ] {
+        let text = put_fraction(rt.alloc(), fraction)?;
+        assert!(rt; text.as_slice() == printed.as_bytes(), "{printed}");
+    }
+    Ok(())
 }

@@ -1,7 +1,8 @@
 -- The rows of the devices that an event lists as changed are those of two diagnoses.
-use Rattle.std.proofs.Common.{◌≡◌, ℕ, ◌+◌, ◌<◌, Bool, true, false, cond, refl, sym, ap, ◌∙◌, subst, arith, List, [], ◌∷◌, ◌++◌, All, length, map, get_or, append_assoc, Ok, Err, Result}
+use Rattle.std.proofs.Common.{◌≡◌, ℕ, ◌<◌, Bool, true, false, cond, refl, sym, ap, ◌∙◌, arith, List, [], ◌∷◌, ◌++◌, All, length, map, get_or, append_assoc, Ok, Err}
 use Rattle.std.specs.Prelude.{◌&&◌, not, codes, decimal, filter, flat_map, Option, None, Some}
 use Rattle.std.specs.List.{range_with_len}
+use Rattle.std.specs.Result.{result_err}
 use Rattle.std.proofs.Math.Path.{fun_ext}
 use Rattle.std.proofs.lemmas.List.Folds.{flat_map-map}
 use Rattle.std.proofs.lemmas.List.Elements.{All-filter}
@@ -9,7 +10,6 @@ use Rattle.std.proofs.lemmas.List.{length-map, get_or-map}
 use Rattle.std.proofs.lemmas.List.FromFn.{get_or-range_with_len, length-range_with_len}
 use Rattle.grid_model.specs.Parts.{Parts}
 use Rattle.grid_model.specs.Places.{device_at}
-use Rattle.grid_model.specs.Problem.{posed}
 use Rattle.grid_model.specs.declared.parts.DeviceId.{DeviceId}
 use Rattle.grid_model.specs.declared.history.Event.{Event}
 use Rattle.grid_model.specs.declared.history.Refusal.{Refusal}
@@ -20,7 +20,7 @@ use Rattle.history_rules.specs.Output.{cost_row, change_rows, changes, refused_r
 use Rattle.diagnosis.specs.Judgement.{Judgement, opened_by, differ, differences}
 use Rattle.outage_engine.specs.declared.Applied.{Applied}
 use Rattle.outage_engine.specs.Engined.{Engined, IsEngineAfter, answer_by}
-use Rattle.outage_cli.specs.Entered.{device_rows}
+use Rattle.report_text.specs.Entered.{device_rows}
 
 filter_step : {X A : Type 0} (f : X → List A) (b : Bool) (x : X) (xs : List X) (rest : List A) → flat_map f xs ≡ rest → flat_map f (cond b (x ∷ xs) xs) ≡ cond b (f x) [] ++ rest
 filter_step f true x xs rest e = ap (λ ys. f x ++ ys) e
@@ -142,3 +142,18 @@ applied_printed h event line old new applied out printed was answer is grid list
     changes_printed old.grid h (joined old.grid h event) line old new was is refl grid out printed applied.cost_before applied.cost_after listed costs.1 costs.2 text
     ∙ ap (λ after. out ++ changes old.grid line h after) joins
     ∙ ap (λ r. out ++ entry old.grid line h (outcome_by event r)) (sym costs.0)
+
+-- the error of an answer is the rule that refuses the event
+answer_is : (g : Parts) (h : List Event) (event : Event) (r : Option Refusal) → result_err (answer_by g h event r) ≡ r
+answer_is g h event None = refl
+answer_is g h event (Some rule) = refl
+
+-- and so the row of a refused line is its entry
+pub refused_printed : (g : Parts) (h : List Event) (event : Event) (line : ℕ) (rule : Refusal) (out front printed : List ℕ) (number : ℕ) → front ≡ out → number ≡ line
+    → Err rule ≡ answer_by g h event (refusal_of g h event) → printed ≡ front ++ refused_row number (Unapplied rule)
+    → printed ≡ out ++ entry g line h (outcome_by event (refusal_of g h event))
+refused_printed g h event line rule out front printed number same_front same_number answer e =
+    e
+    ∙ ap (λ x. x ++ refused_row number (Unapplied rule)) same_front
+    ∙ ap (λ x. out ++ refused_row x (Unapplied rule)) same_number
+    ∙ ap (λ r. out ++ entry g line h (outcome_by event r)) (ap result_err answer ∙ answer_is g h event (refusal_of g h event))

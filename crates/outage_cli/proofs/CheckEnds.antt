@@ -1,5 +1,5 @@
 -- What holds where a check ends.
-use Rattle.std.proofs.Common.{◌≡◌, ℕ, false, List, [], Option, None, Some, inl, refl, sym, ap, ◌∙◌, subst, length}
+use Rattle.std.proofs.Common.{◌≡◌, ℕ, List, [], Option, None, Some, inl, refl, sym, ap, ◌∙◌, subst, length}
 use Rattle.std.specs.Io.KnownBytes.{Appends}
 use Rattle.grid_model.specs.declared.history.Event.{Event}
 use Rattle.history_rules.specs.Posed.{problem_after}
@@ -11,41 +11,46 @@ use Rattle.bound_checker.specs.declared.rules.Verdict.{Verdict}
 use Rattle.bound_checker.specs.declared.rules.Verdict.TheVariants as verdict
 use Rattle.outage_engine.specs.Engined.{Engined, IsEngineAfter}
 use Rattle.outage_ports.specs.Bytes.{Files, AppendsPrefix}
-use Rattle.outage_cli.specs.Form.{Places, Replay, Check}
+use Rattle.command_words.specs.Forms.{Places, Replay, Check}
 use Rattle.outage_cli.specs.Files.{SaysBounds}
 use Rattle.outage_cli.specs.Told.{last_problem, verdict_on, verdict_text}
-use Rattle.std.specs.Prelude.{Result, Ok, IsErrOf, is_ok}
+use Rattle.std.specs.Prelude.{false, Result, Ok, IsErrOf, is_ok}
 use Rattle.std.proofs.lemmas.Bool.{false≢true}
 use Rattle.outage_cli.specs.Run.{CanReplay, CanCheck, IsSilentCheck, status_of}
 use Rattle.outage_cli.specs.Ended.{IsEnd, Runs, DidRun, DidSayBounds, IsReportStop}
 use Rattle.outage_cli.specs.declared.status.Status.{Status}
 use Rattle.outage_cli.specs.declared.status.Status.TheVariants.{Done, Invalid, Usage, ReadFault, WriteFault, NetworkRefused, ReportRefused, Limit, Memory}
+use Rattle.command_words.specs.declared.words.Wish.{Wish}
 use Rattle.outage_cli.specs.declared.status.Which.TheVariants.{NetworkBytes, EventLines, EventBytes, ReportBytes}
 
--- where its replay stops before the end of the events, so does the check, and nothing was written
-pub stopped_end : (files : Option Files) (left before now out : Option (List ℕ)) (places : Places) (report : List ℕ) (status : Status) →
-    IsEnd files left before now (Some (Replay places false)) status → (status ≡ Done → ⊥) → (status ≡ WriteFault → ⊥) → IsEnd files left out out (Some (Check places report)) status
-stopped_end None left before now out places report status end done write = tt
-stopped_end (Some files) left before now out places report Done end done write = absurd (done refl)
-stopped_end (Some files) left before now out places report (Invalid rule) end done write = absurd end
-stopped_end (Some files) left before now out places report Usage end done write = absurd end
-stopped_end (Some files) left before now out places report ReadFault end done write = refl
-stopped_end (Some files) left before now out places report WriteFault end done write = absurd (write refl)
-stopped_end (Some files) left before now out places report (NetworkRefused line rule) end done write = end
-stopped_end (Some files) left before now out places report (ReportRefused line rule) end done write = absurd end
-stopped_end (Some files) left before now out places report (Limit NetworkBytes) end done write = (end.0, refl)
-stopped_end (Some files) left before now out places report (Limit EventLines) end done write = (end.0, refl)
-stopped_end (Some files) left before now out places report (Limit EventBytes) end done write = (end.0, refl)
-stopped_end (Some files) left before now out places report (Limit ReportBytes) end done write = absurd end.0
-stopped_end (Some files) left before now out places report Memory end done write = inl refl
+-- nothing that a check asks for
+pub no_wish : Wish
+no_wish = record { with_bounds = false; period = record { from = record { 0 = 0 }; until = None } }
 
-module _ (places : Places) (report : List ℕ) (e : Engined) (read from mid : Option (List ℕ)) where
+-- where its replay stops before the end of the events, so does the check, and nothing was written
+pub stopped_end : (files : Option Files) (left before now out : Option (List ℕ)) (places : Places) (wish : Wish) (report : List ℕ) (status : Status) →
+    IsEnd files left before now (Some (Replay places wish)) status → (status ≡ Done → ⊥) → (status ≡ WriteFault → ⊥) → IsEnd files left out out (Some (Check places report)) status
+stopped_end None left before now out places wish report status end done write = tt
+stopped_end (Some files) left before now out places wish report Done end done write = absurd (done refl)
+stopped_end (Some files) left before now out places wish report (Invalid rule) end done write = absurd end
+stopped_end (Some files) left before now out places wish report Usage end done write = absurd end
+stopped_end (Some files) left before now out places wish report ReadFault end done write = refl
+stopped_end (Some files) left before now out places wish report WriteFault end done write = absurd (write refl)
+stopped_end (Some files) left before now out places wish report (NetworkRefused line rule) end done write = end
+stopped_end (Some files) left before now out places wish report (ReportRefused line rule) end done write = absurd end
+stopped_end (Some files) left before now out places wish report (Limit NetworkBytes) end done write = (end.0, refl)
+stopped_end (Some files) left before now out places wish report (Limit EventLines) end done write = (end.0, refl)
+stopped_end (Some files) left before now out places wish report (Limit EventBytes) end done write = (end.0, refl)
+stopped_end (Some files) left before now out places wish report (Limit ReportBytes) end done write = absurd end.0
+stopped_end (Some files) left before now out places wish report Memory end done write = inl refl
+
+module _ (places : Places) (report : List ℕ) (e : Engined) (refused : ℕ) (read from mid : Option (List ℕ)) where
   -- the files of its replay
-  abbrev can_replay : (files : Files) → Runs files places read from mid e → CanReplay files places
+  abbrev can_replay : (files : Files) → Runs files places read from mid e refused → CanReplay files places
   can_replay files ran = record { parts = e.grid; events = ran.events.bytes; network = ran.network; event_file = ran.events.events }
 
   -- where no bounds were read, nothing was written
-  report_stops : (files : Option Files) (left out : Option (List ℕ)) (status : Status) → DidRun files places read from mid e → IsReportStop files report e.grid status → IsEnd files left out out (Some (Check places report)) status
+  report_stops : (files : Option Files) (left out : Option (List ℕ)) (status : Status) → DidRun files places read from mid e refused → IsReportStop files report e.grid status → IsEnd files left out out (Some (Check places report)) status
   report_stops None left out status ran stop = tt
   report_stops (Some files) left out Done ran stop = absurd stop
   report_stops (Some files) left out (Invalid rule) ran stop = absurd stop
@@ -60,18 +65,18 @@ module _ (places : Places) (report : List ℕ) (e : Engined) (read from mid : Op
   report_stops (Some files) left out (Limit ReportBytes) ran stop = ((can_replay files ran, stop), refl)
   report_stops (Some files) left out Memory ran stop = inl refl
 
-  pub report_end : (files same : Option Files) (left out : Option (List ℕ)) (status : Status) → same ≡ files → DidRun files places read from mid e → IsReportStop same report e.grid status →
+  pub report_end : (files same : Option Files) (left out : Option (List ℕ)) (status : Status) → same ≡ files → DidRun files places read from mid e refused → IsReportStop same report e.grid status →
       IsEnd files left out out (Some (Check places report)) status
   report_end files same left out status are ran stop = report_stops files left out status ran (subst (λ (f : Option Files). IsReportStop f report e.grid status) are stop)
 
   module _ (bounds : Table) (v : Verdict)
       (is : (h : List Event) → IsEngineAfter h e → v ≡ verdict_of (problem_after e.grid h) (table_of (length e.grid.devices) bounds.rows) (cut_of bounds.cuts) bounds.cost) where
     -- the verdict is the one on the bounds
-    verdict_told : (files : Files) (ran : Runs files places read from mid e) → verdict_on e.grid ran.events.bytes bounds ≡ v
+    verdict_told : (files : Files) (ran : Runs files places read from mid e refused) → verdict_on e.grid ran.events.bytes bounds ≡ v
     unfolding verdict_on last_problem
     verdict_told files ran = sym (is (history_of e.grid ran.events.bytes) ran.events.engine)
 
-    abbrev can_check : (files : Files) → Runs files places read from mid e → SaysBounds files report e.grid bounds → CanCheck files places report v
+    abbrev can_check : (files : Files) → Runs files places read from mid e refused → SaysBounds files report e.grid bounds → CanCheck files places report v
     can_check files ran says = record {
       parts = e.grid;
       events = ran.events.bytes;
@@ -83,12 +88,12 @@ module _ (places : Places) (report : List ℕ) (e : Engined) (read from mid : Op
     }
 
     module _ (text : List ℕ) (told : text ≡ verdict_text e.grid v) (left before now : Option (List ℕ)) where
-      part_ends : (files : Option Files) → DidRun files places read from mid e → DidSayBounds files left report e.grid bounds → AppendsPrefix before now text → IsEnd files left before now (Some (Check places report)) WriteFault
+      part_ends : (files : Option Files) → DidRun files places read from mid e refused → DidSayBounds files left report e.grid bounds → AppendsPrefix before now text → IsEnd files left before now (Some (Check places report)) WriteFault
       part_ends None ran says part = tt
       part_ends (Some files) ran says part =
           record { verdict = v; can = can_check files ran says.0; written = subst (λ (t : List ℕ). AppendsPrefix before now t) told part }
 
-      pub check_part_end : (files same : Option Files) → same ≡ files → DidRun files places read from mid e → DidSayBounds same left report e.grid bounds → AppendsPrefix before now text →
+      pub check_part_end : (files same : Option Files) → same ≡ files → DidRun files places read from mid e refused → DidSayBounds same left report e.grid bounds → AppendsPrefix before now text →
           IsEnd files left before now (Some (Check places report)) WriteFault
       check_part_end files same are ran says part = part_ends files ran (subst (λ (f : Option Files). DidSayBounds f left report e.grid bounds) are says) part
 
@@ -98,17 +103,17 @@ module _ (places : Places) (report : List ℕ) (files : Files) (left before now 
   verdict_ends verdict.Valid can read all = record { can = can; read = read; written = all }
   verdict_ends (verdict.Invalid rule place) can read all = (place, record { can = can; read = read; written = all })
 
-pub check_done_end : (places : Places) (report : List ℕ) (e : Engined) (read from mid : Option (List ℕ)) (bounds : Table) (v : Verdict)
+pub check_done_end : (places : Places) (report : List ℕ) (e : Engined) (refused : ℕ) (read from mid : Option (List ℕ)) (bounds : Table) (v : Verdict)
     (is : (h : List Event) → IsEngineAfter h e → v ≡ verdict_of (problem_after e.grid h) (table_of (length e.grid.devices) bounds.rows) (cut_of bounds.cuts) bounds.cost)
     (text : List ℕ) (told : text ≡ verdict_text e.grid v) (left before now : Option (List ℕ)) (files same : Option Files) → same ≡ files →
-    DidRun files places read from mid e → DidSayBounds same left report e.grid bounds → Appends before now text → IsEnd files left before now (Some (Check places report)) (status_of v)
-check_done_end places report e read from mid bounds v is text told left before now files same are ran says all =
+    DidRun files places read from mid e refused → DidSayBounds same left report e.grid bounds → Appends before now text → IsEnd files left before now (Some (Check places report)) (status_of v)
+check_done_end places report e refused read from mid bounds v is text told left before now files same are ran says all =
     ends files ran (subst (λ (f : Option Files). DidSayBounds f left report e.grid bounds) are says)
   where
-    ends : (files : Option Files) → DidRun files places read from mid e → DidSayBounds files left report e.grid bounds → IsEnd files left before now (Some (Check places report)) (status_of v)
+    ends : (files : Option Files) → DidRun files places read from mid e refused → DidSayBounds files left report e.grid bounds → IsEnd files left before now (Some (Check places report)) (status_of v)
     ends None ran says = tt
     ends (Some files) ran says =
-        verdict_ends places report files left before now v (can_check places report e read from mid bounds v is files ran says.0) says.1 (subst (λ (t : List ℕ). Appends before now t) told all)
+        verdict_ends places report files left before now v (can_check places report e refused read from mid bounds v is files ran says.0) says.1 (subst (λ (t : List ℕ). Appends before now t) told all)
 
 -- a verdict is written
 pub never_silent : (v : Verdict) → IsSilentCheck (status_of v) → ⊥

@@ -1,6 +1,6 @@
 -- What was read of the events, and what was written of them.
-use Rattle.std.proofs.Common.{◌≡◌, ℕ, ◌+◌, ◌-◌, ◌<◌, ◌≤◌, false, refl, sym, ap, ◌∙◌, subst, arith, inl, inr, List, [], ◌∷◌, ◌++◌, length, take, drop, append_assoc, append-nil, Option, Some, None, Result, Ok, Err}
-use Rattle.std.specs.Prelude.{IfOk, OnOk, is_err}
+use Rattle.std.proofs.Common.{◌≡◌, ℕ, ◌+◌, ◌<◌, ◌≤◌, false, refl, sym, ap, ◌∙◌, subst, arith, inl, inr, List, [], ◌∷◌, ◌++◌, length, take, drop, append_assoc, append-nil, Option, Some, None, Result, Ok, Err}
+use Rattle.std.specs.Prelude.{OnOk, is_err}
 use Rattle.std.specs.Io.KnownBytes.{Appends}
 use Rattle.std.proofs.lemmas.List.{length-append, length-take, take_at, take-append-drop, take-append-le, take-take}
 use Rattle.std.proofs.Math.Seq.{take-append-add}
@@ -10,6 +10,7 @@ use Rattle.line_text.specs.Cutting.{IsAtPart}
 use Rattle.line_text.specs.Laws.{LinesFromParts}
 use Rattle.history_rules.specs.Run.{ended_lines, counted, before_counted, lines_within, history_in}
 use Rattle.history_rules.specs.Output.{entries}
+use Rattle.history_rules.specs.Report.{refused_in}
 use Rattle.history_rules.specs.Laws.{LinesOfLimit, RunOfParts}
 use Rattle.outage_engine.specs.Engined.{Engined, IsEngineAfter}
 use Rattle.outage_ports.specs.Bytes.{Files, Starts, Takes, AppendsPrefix}
@@ -21,7 +22,9 @@ use Rattle.outage_cli.specs.declared.taken.Taken.{Taken}
 use Rattle.outage_cli.specs.declared.taken.LineStop.{LineStop}
 use Rattle.outage_cli.specs.declared.taken.LineStop.TheVariants.{TooMany, Memory}
 use Rattle.outage_cli.specs.declared.run.Run.{Run}
+use Rattle.outage_cli.specs.declared.reading.EventsStop.{EventsStop}
 use Rattle.outage_cli.specs.Pieces.{ended_from, part_from, HasTaken, HasRead, HasMet}
+use Rattle.outage_cli.proofs.TakenLines.{events_few}
 use Rattle.outage_cli.proofs.EndedLines.{ended_are, within_all, within_first, within_front, taken_front, one_more}
 
 -- these bytes stand at the front of the file
@@ -220,16 +223,28 @@ start_stopped law (Some files) name before g = record {
   written = appends_same before before [] (entries g 1 [] (ended_lines [])) (sym (ap (entries g 1 []) (ended_are law []))) (appends_none before);
 }
 
+-- lines stay taken where their entries are written
+pub taken_kept : (lines : List (List ℕ)) (written : List ℕ) (taken new : Taken) (e : Engined)
+    → HasTaken lines written taken e → new.number ≡ taken.number → new.counted ≡ taken.counted → new.entries.items ≡ [] → HasTaken lines (written ++ taken.entries.items) new e
+taken_kept lines written taken new e has number count none = record {
+  numbers = number ∙ has.numbers;
+  counts = count ∙ has.counts;
+  few = has.few;
+  engine = has.engine;
+  printed = ap (λ xs. (written ++ taken.entries.items) ++ xs) none ∙ append-nil (written ++ taken.entries.items) ∙ has.printed;
+}
+
 -- all was read and written
-pub all_read : (files : Option Files) (left : Option (List ℕ)) (name bytes : List ℕ) (before mid now : Option (List ℕ)) (g : Parts) (written : List ℕ) (taken : Taken) (e : Engined)
+pub all_read : (files : Option Files) (left : Option (List ℕ)) (name bytes : List ℕ) (before mid now : Option (List ℕ)) (g : Parts) (written : List ℕ) (taken : Taken) (e : Engined) (refused : ℕ)
     → IsAllOf files left name bytes → length bytes ≤ most_events → HasTaken (lines bytes) written taken e → e.grid ≡ g → Appends before mid written → Appends mid now taken.entries.items
-    → DidReadAll files name left before now g e
-all_read None left name bytes before mid now g written taken e all fits has grid h k = tt
-all_read (Some files) left name bytes before mid now g written taken e all fits has grid h k = record {
+    → refused ≡ refused_in e.grid [] (lines bytes) → DidReadAll files name left before now g e refused
+all_read None left name bytes before mid now g written taken e refused all fits has grid h k is = tt
+all_read (Some files) left name bytes before mid now g written taken e refused all fits has grid h k is = record {
   bytes = bytes;
   events = record { file = record { are = all.0; fits = fits }; few = has.few };
   read = all.1;
   engine = subst (λ p. IsEngineAfter (history_in p [] (lines bytes)) e) grid has.engine;
+  refusals = is ∙ ap (λ p. refused_in p [] (lines bytes)) grid;
   written = appends_same before now (written ++ taken.entries.items) (entries g 1 [] (lines bytes)) (has.printed ∙ ap (λ p. entries p 1 [] (lines bytes)) grid) (appends_both before mid now written taken.entries.items h k);
 }
 
@@ -279,10 +294,6 @@ piece_written bytes written run e g before mid now read grid h k =
     (appends_both before mid now written run.taken.entries.items h k)
 
 -- what an answer says
-pub if_done : {E : Type 0} (r : Result (Unit {0}) E) (P : Type 0) → (r ≡ Ok tt → P) → IfOk r (λ _. P)
-if_done (Ok tt) P h = h refl
-if_done (Err e) P h = tt
-
 pub done : {E : Type 0} (r : Result (Unit {0}) E) → is_err r ≡ false → r ≡ Ok tt
 done (Ok tt) e = refl
 done (Err x) e = cc
@@ -306,3 +317,14 @@ write_stopped law files name all before mid now g written taken (Err Memory) has
 -- what a run that took lines has printed
 pub taken_printed : (lines : List (List ℕ)) (written : List ℕ) (taken : Taken) (e : Engined) (g : Parts) → HasTaken lines written taken e → e.grid ≡ g → (length (counted lines) ≤ most_event_lines) × (written ++ taken.entries.items ≡ entries g 1 [] lines)
 taken_printed lines written taken e g has grid = (has.few, has.printed ∙ ap (λ p. entries p 1 [] lines) grid)
+
+-- a stop is passed on as it is
+pub passed_on : {X : Type 0} (r : Result X EventsStop) (stop same other : EventsStop) → r ≡ Err same → same ≡ stop → r ≡ Err other → stop ≡ other
+passed_on r stop same other is are e = cc
+
+-- no more events were applied than lines count
+pub taken_few : (lines : List (List ℕ)) (written : List ℕ) (taken : Taken) (e : Engined) → HasTaken lines written taken e → e.field.applied ≤ most_event_lines
+taken_few lines written taken e has =
+    let few = has.few in
+    let count = has.engine.field.count in
+    omega (arith, events_few e.grid [] lines)

@@ -1,4 +1,3 @@
-pub mod WordLists
 pub mod ChangeRows
 pub mod TakenLines
 pub mod EventsOfGrid
@@ -15,5 +14,7 @@ pub mod Totals
 pub mod Weights
 pub mod KeptNumbers
 pub mod TightTables
+pub mod RowLines
+pub mod ReportLines
 pub mod LinesBefore
 pub mod OwnReport

@@ -1,5 +1,5 @@
 -- Which statuses are owed: the causes exclude one another.
-use Rattle.std.proofs.Common.{◌≡◌, ◌≤◌, ℕ, Bool, List, length, take, Option, None, Some, inl, inr, refl, sym, ap, ◌∙◌, arith}
+use Rattle.std.proofs.Common.{◌≡◌, ◌≤◌, ℕ, List, length, take, Option, None, Some, inl, inr, refl, sym, ap, ◌∙◌, arith}
 use Rattle.std.specs.Prelude.{◌⊎◌, if◌then◌else◌}
 use Rattle.std.proofs.lemmas.Bool.{le-leb}
 use Rattle.grid_model.specs.Parts.{Parts}
@@ -13,7 +13,7 @@ use Rattle.bound_table.specs.declared.bounds.BoundRule.{BoundRule}
 use Rattle.bound_checker.specs.declared.rules.Verdict.{Verdict}
 use Rattle.bound_checker.specs.declared.rules.Verdict.TheVariants as verdict
 use Rattle.outage_ports.specs.Bytes.{Files}
-use Rattle.outage_cli.specs.Form.{Places, Command, Replay, Check}
+use Rattle.command_words.specs.Forms.{Places, Command, Replay, Check}
 use Rattle.outage_cli.specs.Files.{most_network, most_events, most_report, IsTooLong, IsWithin, SaysNetwork, RefusesNetworkAt, HasEvents, HasTooManyLines, HasTooManyBytes, SaysBounds, RefusesReportAt}
 use Rattle.outage_cli.specs.Told.{verdict_on}
 use Rattle.outage_cli.specs.Run.{CanReplay, CanCheck, places_in, RefusesReport, IsOver, IsDue, status_of, Completes, IsComplete}
@@ -21,6 +21,7 @@ use Rattle.outage_cli.specs.Ended.{EndsAs, IsEnd}
 use Rattle.outage_cli.specs.declared.status.Status.{Status}
 use Rattle.outage_cli.specs.declared.status.Status.TheVariants.{Done, Invalid, Usage, ReadFault, WriteFault, NetworkRefused, ReportRefused, Limit, Memory}
 use Rattle.outage_cli.specs.declared.status.Which.{Which}
+use Rattle.command_words.specs.declared.words.Wish.{Wish}
 use Rattle.outage_cli.specs.declared.status.Which.TheVariants.{NetworkBytes, EventLines, EventBytes, ReportBytes}
 
 -- a file has one text
@@ -115,7 +116,7 @@ module _ (files : Files) where
   refused_or_over command line rule NetworkBytes r o = not_long files (places_in command).net r.bytes most_network r.file o
   refused_or_over command line rule EventLines r o = says_or_refused (places_in command).net o.parts line rule o.network r
   refused_or_over command line rule EventBytes r o = says_or_refused (places_in command).net o.parts line rule o.network r
-  refused_or_over (Replay places with_bounds) line rule ReportBytes r o = absurd o
+  refused_or_over (Replay places wish) line rule ReportBytes r o = absurd o
   refused_or_over (Check places report) line rule ReportBytes r o = says_or_refused places.net o.0.parts line rule o.0.network r
 
   -- what can be replayed meets no limit of its files
@@ -125,11 +126,11 @@ module _ (files : Files) where
   can_or_long : (places : Places) → CanReplay files places → IsTooLong files places.net most_network → ⊥
   can_or_long places can long = not_long files places.net can.network.bytes most_network can.network.file long
 
-  replay_or_over : (places : Places) (with_bounds : Bool) (which : Which) → CanReplay files places → IsOver files (Replay places with_bounds) which → ⊥
-  replay_or_over places with_bounds NetworkBytes can o = can_or_long places can o
-  replay_or_over places with_bounds EventLines can o = few_or_many places.events can.events o.bytes can.event_file o.many
-  replay_or_over places with_bounds EventBytes can o = few_or_more places.events can.events o.bytes can.event_file o.long
-  replay_or_over places with_bounds ReportBytes can o = absurd o
+  replay_or_over : (places : Places) (wish : Wish) (which : Which) → CanReplay files places → IsOver files (Replay places wish) which → ⊥
+  replay_or_over places wish NetworkBytes can o = can_or_long places can o
+  replay_or_over places wish EventLines can o = few_or_many places.events can.events o.bytes can.event_file o.many
+  replay_or_over places wish EventBytes can o = few_or_more places.events can.events o.bytes can.event_file o.long
+  replay_or_over places wish ReportBytes can o = absurd o
 
   -- nor does what can be checked
   can_of : (places : Places) (report : List ℕ) (v : Verdict) → CanCheck files places report v → CanReplay files places
@@ -169,17 +170,17 @@ module _ (files : Files) where
   one_limit command ReportBytes ReportBytes p q = refl
   one_limit command NetworkBytes EventLines p q = absurd (network_or_later (places_in command) q.parts q.network p)
   one_limit command NetworkBytes EventBytes p q = absurd (network_or_later (places_in command) q.parts q.network p)
-  one_limit (Replay places with_bounds) NetworkBytes ReportBytes p q = absurd q
+  one_limit (Replay places wish) NetworkBytes ReportBytes p q = absurd q
   one_limit (Check places report) NetworkBytes ReportBytes p q = absurd (can_or_long places q.0 p)
   one_limit command EventLines NetworkBytes p q = absurd (network_or_later (places_in command) p.parts p.network q)
   one_limit command EventLines EventBytes p q = absurd (many_or_more (places_in command).events p.bytes q.bytes p.many q.long)
-  one_limit (Replay places with_bounds) EventLines ReportBytes p q = absurd q
+  one_limit (Replay places wish) EventLines ReportBytes p q = absurd q
   one_limit (Check places report) EventLines ReportBytes p q = absurd (few_or_many places.events q.0.events p.bytes q.0.event_file p.many)
   one_limit command EventBytes NetworkBytes p q = absurd (network_or_later (places_in command) p.parts p.network q)
   one_limit command EventBytes EventLines p q = absurd (many_or_more (places_in command).events q.bytes p.bytes q.many p.long)
-  one_limit (Replay places with_bounds) EventBytes ReportBytes p q = absurd q
+  one_limit (Replay places wish) EventBytes ReportBytes p q = absurd q
   one_limit (Check places report) EventBytes ReportBytes p q = absurd (few_or_more places.events q.0.events p.bytes q.0.event_file p.long)
-  one_limit (Replay places with_bounds) ReportBytes b p q = absurd p
+  one_limit (Replay places wish) ReportBytes b p q = absurd p
   one_limit (Check places report) ReportBytes NetworkBytes p q = absurd (can_or_long places p.0 q)
   one_limit (Check places report) ReportBytes EventLines p q = absurd (few_or_many places.events p.0.events q.bytes p.0.event_file q.many)
   one_limit (Check places report) ReportBytes EventBytes p q = absurd (few_or_more places.events p.0.events q.bytes p.0.event_file q.long)
@@ -188,15 +189,15 @@ module _ (files : Files) where
     -- which limit is owed
     over_owed : (command : Command) (status : Status) → EndsAs files left before now command status → (status ≡ ReadFault → ⊥) →
         (which : Which) → IsOver files command which → (status ≡ Limit which) ⊎ ((status ≡ Memory) ⊎ (status ≡ WriteFault))
-    over_owed (Replay places b) Done end read which o = absurd (replay_or_over places b which end.can o)
+    over_owed (Replay places wish) Done end read which o = absurd (replay_or_over places wish which end.can o)
     over_owed (Check places report) Done end read which o = absurd (check_or_over places report verdict.Valid which end.can o)
-    over_owed (Replay places b) (Invalid rule) end read which o = absurd end
+    over_owed (Replay places wish) (Invalid rule) end read which o = absurd end
     over_owed (Check places report) (Invalid rule) end read which o = absurd (check_or_over places report (verdict.Invalid rule end.0) which end.1.can o)
     over_owed command Usage end read which o = absurd end
     over_owed command ReadFault end read which o = absurd (read refl)
     over_owed command WriteFault end read which o = inr (inr refl)
     over_owed command (NetworkRefused line rule) end read which o = absurd (refused_or_over command line rule which end o)
-    over_owed (Replay places b) (ReportRefused line rule) end read which o = absurd end
+    over_owed (Replay places wish) (ReportRefused line rule) end read which o = absurd end
     over_owed (Check places report) (ReportRefused line rule) end read which o = absurd (refused_or_long places report line rule which end o)
     over_owed command (Limit a) end read which o = inl (one_limit command a which end.0 o)
     over_owed command Memory end read which o = inr (inl refl)
@@ -204,16 +205,16 @@ module _ (files : Files) where
     -- which refusal of the network
     network_owed : (command : Command) (status : Status) → EndsAs files left before now command status → (status ≡ ReadFault → ⊥) →
         (line : ℕ) (rule : GridRule) → RefusesNetworkAt files (places_in command).net line rule → (status ≡ NetworkRefused line rule) ⊎ (status ≡ Memory)
-    network_owed (Replay places b) Done end read line rule r = absurd (can_or_refused places line rule end.can r)
+    network_owed (Replay places wish) Done end read line rule r = absurd (can_or_refused places line rule end.can r)
     network_owed (Check places report) Done end read line rule r = absurd (says_or_refused places.net end.can.parts line rule end.can.network r)
-    network_owed (Replay places b) (Invalid broken) end read line rule r = absurd end
+    network_owed (Replay places wish) (Invalid broken) end read line rule r = absurd end
     network_owed (Check places report) (Invalid broken) end read line rule r = absurd (says_or_refused places.net end.1.can.parts line rule end.1.can.network r)
     network_owed command Usage end read line rule r = absurd end
     network_owed command ReadFault end read line rule r = absurd (read refl)
-    network_owed (Replay places b) WriteFault end read line rule r = absurd (says_or_refused places.net end.can.parts line rule end.can.network r)
+    network_owed (Replay places wish) WriteFault end read line rule r = absurd (says_or_refused places.net end.can.parts line rule end.can.network r)
     network_owed (Check places report) WriteFault end read line rule r = absurd (says_or_refused places.net end.can.parts line rule end.can.network r)
     network_owed command (NetworkRefused other rival) end read line rule r = inl (refused_once (places_in command).net other line rival rule end r)
-    network_owed (Replay places b) (ReportRefused other rival) end read line rule r = absurd end
+    network_owed (Replay places wish) (ReportRefused other rival) end read line rule r = absurd end
     network_owed (Check places report) (ReportRefused other rival) end read line rule r = absurd (can_or_refused places line rule end.0 r)
     network_owed command (Limit a) end read line rule r = absurd (refused_or_over command line rule a r end.0)
     network_owed command Memory end read line rule r = inr refl
@@ -221,7 +222,7 @@ module _ (files : Files) where
     -- which refusal of the report
     report_owed : (command : Command) (status : Status) → EndsAs files left before now command status → (status ≡ ReadFault → ⊥) →
         (line : ℕ) (rule : BoundRule) → RefusesReport files command line rule → (status ≡ ReportRefused line rule) ⊎ (status ≡ Memory)
-    report_owed (Replay places b) status end read line rule r = absurd r
+    report_owed (Replay places wish) status end read line rule r = absurd r
     report_owed (Check places report) Done end read line rule r = absurd (check_or_refused places report verdict.Valid line rule end.can r)
     report_owed (Check places report) (Invalid broken) end read line rule r = absurd (check_or_refused places report (verdict.Invalid broken end.0) line rule end.1.can r)
     report_owed (Check places report) Usage end read line rule r = absurd end
@@ -234,17 +235,17 @@ module _ (files : Files) where
     report_owed (Check places report) Memory end read line rule r = inr refl
 
     -- what completes a command
-    replay_completes : (places : Places) (b : Bool) (status : Status) → EndsAs files left before now (Replay places b) status → (status ≡ ReadFault → ⊥) → (status ≡ WriteFault → ⊥) →
+    replay_completes : (places : Places) (wish : Wish) (status : Status) → EndsAs files left before now (Replay places wish) status → (status ≡ ReadFault → ⊥) → (status ≡ WriteFault → ⊥) →
         CanReplay files places → (status ≡ Done) ⊎ (status ≡ Memory)
-    replay_completes places b Done end read write can = inl refl
-    replay_completes places b (Invalid rule) end read write can = absurd end
-    replay_completes places b Usage end read write can = absurd end
-    replay_completes places b ReadFault end read write can = absurd (read refl)
-    replay_completes places b WriteFault end read write can = absurd (write refl)
-    replay_completes places b (NetworkRefused line rule) end read write can = absurd (can_or_refused places line rule can end)
-    replay_completes places b (ReportRefused line rule) end read write can = absurd end
-    replay_completes places b (Limit which) end read write can = absurd (replay_or_over places b which can end.0)
-    replay_completes places b Memory end read write can = inr refl
+    replay_completes places wish Done end read write can = inl refl
+    replay_completes places wish (Invalid rule) end read write can = absurd end
+    replay_completes places wish Usage end read write can = absurd end
+    replay_completes places wish ReadFault end read write can = absurd (read refl)
+    replay_completes places wish WriteFault end read write can = absurd (write refl)
+    replay_completes places wish (NetworkRefused line rule) end read write can = absurd (can_or_refused places line rule can end)
+    replay_completes places wish (ReportRefused line rule) end read write can = absurd end
+    replay_completes places wish (Limit which) end read write can = absurd (replay_or_over places wish which can end.0)
+    replay_completes places wish Memory end read write can = inr refl
 
     check_completes : (places : Places) (report : List ℕ) (status : Status) → EndsAs files left before now (Check places report) status → (status ≡ ReadFault → ⊥) → (status ≡ WriteFault → ⊥) →
         (v : Verdict) → CanCheck files places report v → (status ≡ status_of v) ⊎ (status ≡ Memory)
@@ -259,7 +260,7 @@ module _ (files : Files) where
     check_completes places report Memory end read write v can = inr refl
 
     completes : (command : Command) (status : Status) → EndsAs files left before now command status → (status ≡ ReadFault → ⊥) → (status ≡ WriteFault → ⊥) → Completes files command status
-    completes (Replay places b) status end read write = replay_completes places b status end read write
+    completes (Replay places wish) status end read write = replay_completes places wish status end read write
     completes (Check places report) status end read write = check_completes places report status end read write
 
 -- a run that ends so is complete

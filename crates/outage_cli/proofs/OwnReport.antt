@@ -1,5 +1,6 @@
 -- The bounds that a replay writes are read back and found valid.
 use Rattle.std.proofs.Common.{◌≡◌, ℕ, true, ap, refl, ◌∙◌, List, [], ◌++◌}
+use Rattle.std.specs.Prelude.{if◌then◌else◌}
 use Rattle.outage_rules.specs.Network.{IsSound, IsRadial}
 use Rattle.outage_rules.specs.Agreement.{ReferenceTableIsExact}
 use Rattle.outage_rules.specs.TightLaws.{RowsAreBounded, LeastIsBounded, DistanceIsBounded}
@@ -9,6 +10,7 @@ use Rattle.grid_model.specs.declared.history.Event.{Event}
 use Rattle.event_rules.specs.Lines.{lines}
 use Rattle.history_rules.specs.Posed.{problem_after, IsHistory}
 use Rattle.history_rules.specs.Run.{history_of}
+use Rattle.history_rules.specs.Output.{replay_text}
 use Rattle.history_rules.specs.Laws.{HistoryIsRadial, ProblemIsSound, RunIsHistory}
 use Rattle.bound_table.specs.Laws.{WrittenIsRead}
 use Rattle.bound_table.specs.Printed.{bounds_text}
@@ -19,6 +21,7 @@ use Rattle.bound_checker.specs.Laws.{TightIsValid}
 use Rattle.bound_checker.specs.declared.rules.Verdict.TheVariants.{Valid}
 use Rattle.outage_cli.specs.Told.{last_problem, output, verdict_on}
 use Rattle.outage_cli.specs.RoundTrip.{IsFoundValid}
+use Rattle.command_words.specs.declared.words.Wish.{Wish}
 use Rattle.outage_cli.proofs.LinesBefore.{replay_lines}
 use Rattle.outage_cli.proofs.TightTables.{tight_within}
 use Rattle.outage_cli.proofs.Weights.{is_light}
@@ -52,17 +55,18 @@ module _ (laws : Laws) (g : Parts) (fits : IsSoundParts g) where
     is_history : IsHistory g (history_of g events)
     is_history = laws.run g [] (lines events) tt
 
-    read_back : report_reading g (output g events true) ≡ IsRead (tight_bounds (last_problem g events))
+    read_back : (wish : Wish) → wish.with_bounds ≡ true → report_reading g (output g events wish) ≡ IsRead (tight_bounds (last_problem g events))
     unfolding output last_problem
-    read_back =
+    read_back wish with_bounds =
         let bounds = tight_bounds (problem_after g (history_of g events)) in
-        let text = replay_lines g fits.names events in
-        ap (λ xs. report_reading g (xs ++ bounds_text g bounds)) text.are
+        let text = replay_lines g fits.names wish.period events in
+        ap (λ b. report_reading g (replay_text g wish.period events ++ (if b then bounds_text g bounds else []))) with_bounds
+        ∙ ap (λ xs. report_reading g (xs ++ bounds_text g bounds)) text.are
         ∙ laws.read g bounds text.before fits (tight_of_network (history_of g events) is_history) text.may
 
     is_valid : verdict_on g events (tight_bounds (last_problem g events)) ≡ Valid
     unfolding verdict_on last_problem problem_after
     is_valid = laws.valid (problem_after g (history_of g events)) (is_sound (history_of g events) is_history) (is_radial (history_of g events) is_history)
 
-    pub found_valid : IsFoundValid g events (output g events true) (tight_bounds (last_problem g events))
-    found_valid = record { read = read_back; verdict = is_valid }
+    pub found_valid : (wish : Wish) → wish.with_bounds ≡ true → IsFoundValid g events (output g events wish) (tight_bounds (last_problem g events))
+    found_valid wish with_bounds = record { read = read_back wish with_bounds; verdict = is_valid }

@@ -3,7 +3,7 @@ use Rattle.std.proofs.Common.{◌≡◌, ℕ, List, Option, None, Some, inl, inr
 use Rattle.bound_table.specs.Tight.{tight_bounds}
 use Rattle.bound_checker.specs.declared.rules.Verdict.TheVariants.{Valid}
 use Rattle.outage_ports.specs.Bytes.{Files}
-use Rattle.outage_cli.specs.Form.{Places, Command, Replay, Check}
+use Rattle.command_words.specs.Forms.{Places, Command, Replay, Check}
 use Rattle.outage_cli.specs.Told.{last_problem}
 use Rattle.outage_cli.specs.Run.{CanCheck, IsDone, IsComplete}
 use Rattle.outage_cli.specs.RoundTrip.{ReplayIsValid, HasOwnReport, IsOwnConfirmed}
@@ -14,7 +14,7 @@ use Rattle.outage_cli.specs.declared.status.Status.TheVariants.{Done}
 own_check : (files : Files) (places : Places) (report : List ℕ) → ReplayIsValid → HasOwnReport files places report → CanCheck files places report Valid
 own_check files places report law own =
     let can = own.can in
-    let found = law can.network.bytes can.events can.parts can.network.grid in
+    let found = law can.network.bytes can.events can.parts own.wish can.network.grid own.bounds in
     record {
       parts = can.parts;
       events = can.events;
@@ -30,7 +30,7 @@ pub own_confirmed : (files : Option Files) (left before now : Option (List ℕ))
     IsComplete files command status → (status ≡ Done → IsDone files left before now command) → IsOwnConfirmed files before now command status
 own_confirmed None left before now command status law complete done = tt
 own_confirmed (Some files) left before now None status law complete done = tt
-own_confirmed (Some files) left before now (Some (Replay places with_bounds)) status law complete done = tt
+own_confirmed (Some files) left before now (Some (Replay places wish)) status law complete done = tt
 own_confirmed (Some files) left before now (Some (Check places report)) status law complete done = λ own.
     ⊎_elim
     (λ e. inl (record { done = e; written = (done e).written }))

@@ -1,5 +1,5 @@
 -- One more line that was taken.
-use Rattle.std.proofs.Common.{◌≡◌, ℕ, ◌+◌, ◌<◌, ◌≤◌, Bool, true, false, cond, refl, sym, ap, ◌∙◌, subst, arith, List, [], ◌∷◌, ◌++◌, length, append_assoc, append-nil, Option, Some, None, Result, Ok, Err}
+use Rattle.std.proofs.Common.{◌≡◌, ℕ, ◌+◌, ◌<◌, ◌≤◌, Bool, true, false, cond, refl, sym, ap, ◌∙◌, subst, arith, List, [], ◌∷◌, ◌++◌, length, append_assoc, append-nil, Option, Some, None, Err}
 use Rattle.std.specs.Prelude.{not, nat_le, ◌==◌, ◌&&◌}
 use Rattle.std.proofs.lemmas.Bool.{lt-ltb, lt-leb}
 use Rattle.std.proofs.Math.Bool.{and-false}
@@ -10,10 +10,10 @@ use Rattle.grid_model.specs.declared.history.Refusal.{Refusal}
 use Rattle.event_rules.specs.Lines.{is_skipped, most_line}
 use Rattle.event_rules.specs.declared.read_rule.ReadRule.TheVariants.{TooLong, BadFields}
 use Rattle.event_rules.specs.Fields.{between_commas, has_no_fields}
-use Rattle.event_rules.specs.EventLines.{EventReading, IsSkipped, IsEvent, IsRefused, event_in, event_of_fields, reading_of, event_reading}
+use Rattle.event_rules.specs.EventLines.{EventReading, IsSkipped, IsRefused, event_in, event_of_fields, reading_of, event_reading}
 use Rattle.history_rules.specs.Laws.{RunOfParts}
-use Rattle.history_rules.specs.Posed.{refusal_of, joined, joined_by}
-use Rattle.history_rules.specs.Run.{Outcome, Skips, Refuses, Applies, Unread, outcome_by, outcome_after, outcome_of, history_by, history_in, counted}
+use Rattle.history_rules.specs.Posed.{joined_by}
+use Rattle.history_rules.specs.Run.{Outcome, Skips, Refuses, Applies, outcome_by, outcome_after, outcome_of, history_by, history_in, counted}
 use Rattle.history_rules.specs.Output.{entry, entries}
 use Rattle.outage_engine.specs.Engined.{Engined, IsEngineAfter}
 use Rattle.outage_cli.specs.declared.taken.Taken.{Taken}

@@ -4,7 +4,7 @@ use Rattle.grid_model.specs.Parts.{Parts}
 use Rattle.bound_table.specs.Table.{Table}
 use Rattle.outage_engine.specs.Engined.{Engined}
 use Rattle.outage_ports.specs.Bytes.{Files}
-use Rattle.outage_cli.specs.Form.{Places, Command}
+use Rattle.command_words.specs.Forms.{Places, Command}
 use Rattle.outage_cli.specs.Files.{most_network, most_report, IsTooLong, SaysNetwork, RefusesNetworkAt, SaysBounds, RefusesReportAt}
 use Rattle.outage_cli.specs.Reading.{ReadsAll}
 use Rattle.outage_cli.specs.Run.{Did, Found, DidPart, Leaves, places_in, RefusesReport, IsOver, Cuts}
@@ -24,20 +24,20 @@ EndsAs files left before now command (ReportRefused line rule) = RefusesReport f
 EndsAs files left before now command (Limit which) = IsOver files command which × Cuts files before now command which
 EndsAs files left before now command Memory = (now ≡ before) ⊎ DidPart files before now command
 
--- a run of words: those of no form do nothing
+-- a run of words: those of no form do nothing, and memory may run out as they are read
 abbrev pub IsEnd : Option Files → Option (List ℕ) → Option (List ℕ) → Option (List ℕ) → Option Command → Status → Type 0
 IsEnd None left before now command status = ⊤
-IsEnd (Some files) left before now None status = status ≡ Usage
+IsEnd (Some files) left before now None status = (now ≡ before) × ((status ≡ Usage) ⊎ (status ≡ Memory))
 IsEnd (Some files) left before now (Some command) status = EndsAs files left before now command status
 
 -- the network was read, and then all events, whose entries were written
-pub record Runs (files : Files) (places : Places) (left before now : Option (List ℕ)) (e : Engined) : Type 0 where
+pub record Runs (files : Files) (places : Places) (left before now : Option (List ℕ)) (e : Engined) (refused : ℕ) : Type 0 where
   pub network : SaysNetwork files places.net e.grid
-  pub events : ReadsAll files places.events left before now e.grid e
+  pub events : ReadsAll files places.events left before now e.grid e refused
 
-abbrev pub DidRun : Option Files → Places → Option (List ℕ) → Option (List ℕ) → Option (List ℕ) → Engined → Type 0
-DidRun None places left before now e = ⊤
-DidRun (Some files) places left before now e = Runs files places left before now e
+abbrev pub DidRun : Option Files → Places → Option (List ℕ) → Option (List ℕ) → Option (List ℕ) → Engined → ℕ → Type 0
+DidRun None places left before now e refused = ⊤
+DidRun (Some files) places left before now e refused = Runs files places left before now e refused
 
 -- the file says this network
 abbrev pub DidSayNetwork : Option Files → List ℕ → Parts → Type 0

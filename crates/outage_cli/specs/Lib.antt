@@ -1,5 +1,3 @@
-pub mod Form
-pub mod Places
 pub mod Whole
 pub mod Number
 pub mod Files
@@ -7,6 +5,5 @@ pub mod Told
 pub mod Reading
 pub mod Run
 pub mod RoundTrip
-pub mod Entered
 pub mod Pieces
 pub mod Ended

@@ -5,22 +5,24 @@ use Rattle.grid_model.specs.Parts.{Parts}
 use Rattle.event_rules.specs.Lines.{lines}
 use Rattle.history_rules.specs.Run.{ended_lines, history_of}
 use Rattle.history_rules.specs.Output.{entries}
+use Rattle.history_rules.specs.Report.{refused_in}
 use Rattle.outage_engine.specs.Engined.{Engined, IsEngineAfter}
 use Rattle.outage_ports.specs.Bytes.{Files, AppendsPrefix}
 use Rattle.outage_cli.specs.Files.{HasEvents, HasTooManyLines, HasTooManyBytes, IsFrontOf}
 use Rattle.outage_cli.specs.Told.{entries_taken}
 
--- the events were read to their end: the engine is that after all of them, and the entries of all lines were written
-pub record ReadsAll (files : Files) (name : List ℕ) (left before now : Option (List ℕ)) (g : Parts) (e : Engined) : Type 0 where
+-- the events were read to their end: the engine is that after all of them, so many lines were refused, and the entries of all lines were written
+pub record ReadsAll (files : Files) (name : List ℕ) (left before now : Option (List ℕ)) (g : Parts) (e : Engined) (refused : ℕ) : Type 0 where
   pub bytes : List ℕ
   pub events : HasEvents files name bytes
   pub read : left ≡ Some []
   pub engine : IsEngineAfter (history_of g bytes) e
+  pub refusals : refused ≡ refused_in g [] (lines bytes)
   pub written : Appends before now (entries g 1 [] (lines bytes))
 
-abbrev pub DidReadAll : Option Files → List ℕ → Option (List ℕ) → Option (List ℕ) → Option (List ℕ) → Parts → Engined → Type 0
-DidReadAll None name left before now g engine = ⊤
-DidReadAll (Some files) name left before now g engine = ReadsAll files name left before now g engine
+abbrev pub DidReadAll : Option Files → List ℕ → Option (List ℕ) → Option (List ℕ) → Option (List ℕ) → Parts → Engined → ℕ → Type 0
+DidReadAll None name left before now g engine refused = ⊤
+DidReadAll (Some files) name left before now g engine refused = ReadsAll files name left before now g engine refused
 
 -- the entries of the lines that ended in these bytes were written
 pub record StopsAt (files : Files) (name : List ℕ) (before now : Option (List ℕ)) (g : Parts) : Type 0 where

@@ -1,12 +1,11 @@
 -- What a run did to the files and to the output.
-use Rattle.std.specs.Prelude.{◌≡◌, ◌⊎◌, ⊤, ℕ, Bool, List, [], Option, None, Some}
+use Rattle.std.specs.Prelude.{◌≡◌, ◌⊎◌, ⊤, ℕ, List, [], Option, None, Some}
 use Rattle.std.specs.Io.KnownBytes.{Appends}
 use Rattle.outage_rules.specs.Diagnosis.{IsDiagnosis, IsLeastCost}
 use Rattle.grid_model.specs.Parts.{Parts}
 use Rattle.grid_model.specs.declared.history.Event.{Event}
-use Rattle.event_rules.specs.Lines.{lines}
 use Rattle.history_rules.specs.Posed.{problem_after, least_after, diagnosis_after, IsHistory}
-use Rattle.history_rules.specs.Run.{ended_lines, history_of}
+use Rattle.history_rules.specs.Run.{ended_lines}
 use Rattle.history_rules.specs.Output.{entries}
 use Rattle.grid_reader.specs.declared.fault.GridRule.{GridRule}
 use Rattle.bound_table.specs.Table.{Table}
@@ -16,13 +15,14 @@ use Rattle.bound_checker.specs.declared.rules.Place.{Place}
 use Rattle.bound_checker.specs.declared.rules.Verdict.{Verdict}
 use Rattle.bound_checker.specs.declared.rules.Verdict.TheVariants as verdict
 use Rattle.outage_ports.specs.Bytes.{Files, AppendsPrefix}
-use Rattle.outage_cli.specs.Form.{Places, Command, Replay, Check}
+use Rattle.command_words.specs.Forms.{Places, Command, Replay, Check}
 use Rattle.outage_cli.specs.Files.{most_network, most_report, IsTooLong, SaysNetwork, RefusesNetworkAt, HasEvents, HasTooManyLines, HasTooManyBytes, IsFrontOf, SaysBounds, RefusesReportAt}
 use Rattle.outage_cli.specs.Told.{output, entries_taken, text_due, verdict_on, verdict_text}
 use Rattle.outage_cli.specs.declared.status.Status.{Status}
 use Rattle.outage_cli.specs.declared.status.Status.TheVariants.{Done, Invalid, Usage, WriteFault, Memory, Limit, NetworkRefused, ReportRefused}
 use Rattle.outage_cli.specs.declared.status.Which.{Which}
 use Rattle.outage_cli.specs.declared.status.Which.TheVariants.{NetworkBytes, EventLines, EventBytes, ReportBytes}
+use Rattle.command_words.specs.declared.words.Wish.{Wish}
 
 -- the statuses of a replay after which nothing was written
 abbrev pub IsSilentReplay : Status → Type 0
@@ -40,7 +40,7 @@ IsSilentCheck status = ⊤
 
 abbrev pub IsSilent : Option Command → Status → Type 0
 IsSilent None status = ⊤
-IsSilent (Some (Replay places with_bounds)) status = IsSilentReplay status
+IsSilent (Some (Replay places wish)) status = IsSilentReplay status
 IsSilent (Some (Check places report)) status = IsSilentCheck status
 
 -- the files of a replay: a network, and events within their limit
@@ -61,12 +61,12 @@ pub record CanCheck (files : Files) (places : Places) (report : List ℕ) (verdi
   pub verdict_is : verdict_on parts events bounds ≡ verdict
 
 -- all files were read to their end, and exactly the defined text was written: after each event the set that the lines give is the diagnosis, and the cost is least
-pub record Replays (files : Files) (left before now : Option (List ℕ)) (places : Places) (with_bounds : Bool) : Type 0 where
+pub record Replays (files : Files) (left before now : Option (List ℕ)) (places : Places) (wish : Wish) : Type 0 where
   pub can : CanReplay files places
   pub read : left ≡ Some []
   pub diagnosis : (h : List Event) → IsHistory can.parts h → IsDiagnosis (problem_after can.parts h) (diagnosis_after can.parts h)
   pub least : (h : List Event) → IsHistory can.parts h → IsLeastCost (problem_after can.parts h) (least_after can.parts h)
-  pub written : Appends before now (output can.parts can.events with_bounds)
+  pub written : Appends before now (output can.parts can.events wish)
 
 -- all files were read to their end, and exactly the verdict was written
 pub record Checks (files : Files) (left before now : Option (List ℕ)) (places : Places) (report : List ℕ) (verdict : Verdict) : Type 0 where
@@ -75,7 +75,7 @@ pub record Checks (files : Files) (left before now : Option (List ℕ)) (places 
   pub written : Appends before now (verdict_text can.parts verdict)
 
 abbrev pub Did : Files → Option (List ℕ) → Option (List ℕ) → Option (List ℕ) → Command → Type 0
-Did files left before now (Replay places with_bounds) = Replays files left before now places with_bounds
+Did files left before now (Replay places wish) = Replays files left before now places wish
 Did files left before now (Check places report) = Checks files left before now places report verdict.Valid
 
 abbrev pub IsDone : Option Files → Option (List ℕ) → Option (List ℕ) → Option (List ℕ) → Option Command → Type 0
@@ -85,7 +85,7 @@ IsDone (Some files) left before now (Some command) = Did files left before now c
 
 -- the check found this rule broken
 abbrev pub Found : Files → Option (List ℕ) → Option (List ℕ) → Option (List ℕ) → Command → CheckRule → Type 0
-Found files left before now (Replay places with_bounds) rule = ⊥
+Found files left before now (Replay places wish) rule = ⊥
 Found files left before now (Check places report) rule = (place : Place) × Checks files left before now places report (verdict.Invalid rule place)
 
 abbrev pub IsInvalid : Option Files → Option (List ℕ) → Option (List ℕ) → Option (List ℕ) → Option Command → CheckRule → Type 0
@@ -101,9 +101,9 @@ pub record CanBegin (files : Files) (places : Places) : Type 0 where
   pub are : files places.events ≡ Some bytes
 
 -- a front part of the text that is due was written
-pub record ReplaysPart (files : Files) (before now : Option (List ℕ)) (places : Places) (with_bounds : Bool) : Type 0 where
+pub record ReplaysPart (files : Files) (before now : Option (List ℕ)) (places : Places) (wish : Wish) : Type 0 where
   pub can : CanBegin files places
-  pub written : AppendsPrefix before now (text_due can.parts can.bytes with_bounds)
+  pub written : AppendsPrefix before now (text_due can.parts can.bytes wish)
 
 pub record ChecksPart (files : Files) (before now : Option (List ℕ)) (places : Places) (report : List ℕ) : Type 0 where
   pub verdict : Verdict
@@ -111,7 +111,7 @@ pub record ChecksPart (files : Files) (before now : Option (List ℕ)) (places :
   pub written : AppendsPrefix before now (verdict_text can.parts verdict)
 
 abbrev pub DidPart : Files → Option (List ℕ) → Option (List ℕ) → Command → Type 0
-DidPart files before now (Replay places with_bounds) = ReplaysPart files before now places with_bounds
+DidPart files before now (Replay places wish) = ReplaysPart files before now places wish
 DidPart files before now (Check places report) = ChecksPart files before now places report
 
 abbrev pub IsPart : Option Files → Option (List ℕ) → Option (List ℕ) → Option Command → Type 0
@@ -135,7 +135,7 @@ pub record StopsReplay (files : Files) (before now : Option (List ℕ)) (places 
 
 -- what a failed read leaves written: nothing, or those entries
 abbrev pub Leaves : Files → Option (List ℕ) → Option (List ℕ) → Command → Type 0
-Leaves files before now (Replay places with_bounds) = (now ≡ before) ⊎ StopsReplay files before now places
+Leaves files before now (Replay places wish) = (now ≡ before) ⊎ StopsReplay files before now places
 Leaves files before now (Check places report) = now ≡ before
 
 abbrev pub IsLeft : Option Files → Option (List ℕ) → Option (List ℕ) → Option Command → Type 0
@@ -145,7 +145,7 @@ IsLeft (Some files) before now (Some command) = Leaves files before now command
 
 -- the files of the network and of the events
 abbrev pub places_in : Command → Places
-places_in (Replay places with_bounds) = places
+places_in (Replay places wish) = places
 places_in (Check places report) = places
 
 -- the network is refused at this line by this rule
@@ -156,7 +156,7 @@ IsRefused (Some files) (Some command) line rule = RefusesNetworkAt files (places
 
 -- the files of a replay are fine, and the report is refused at this line by this rule
 abbrev pub RefusesReport : Files → Command → ℕ → BoundRule → Type 0
-RefusesReport files (Replay places with_bounds) line rule = ⊥
+RefusesReport files (Replay places wish) line rule = ⊥
 RefusesReport files (Check places report) line rule = (can : CanReplay files places) × RefusesReportAt files report can.parts line rule
 
 abbrev pub IsReportRefused : Option Files → Option Command → ℕ → BoundRule → Type 0
@@ -166,7 +166,7 @@ IsReportRefused (Some files) (Some command) line rule = RefusesReport files comm
 
 -- the report is too long, after the files of a replay were fine
 abbrev pub HasLongReport : Files → Command → Type 0
-HasLongReport files (Replay places with_bounds) = ⊥
+HasLongReport files (Replay places wish) = ⊥
 HasLongReport files (Check places report) = CanReplay files places × IsTooLong files report most_report
 
 -- the network is fine, and a limit of its events is met
@@ -201,8 +201,8 @@ pub record IsCutShort (files : Files) (before now : Option (List ℕ)) (places :
 
 -- what a limit of the events leaves written
 abbrev pub Cuts : Files → Option (List ℕ) → Option (List ℕ) → Command → Which → Type 0
-Cuts files before now (Replay places with_bounds) EventLines = IsCutShort files before now places
-Cuts files before now (Replay places with_bounds) EventBytes = IsCutShort files before now places
+Cuts files before now (Replay places wish) EventLines = IsCutShort files before now places
+Cuts files before now (Replay places wish) EventBytes = IsCutShort files before now places
 Cuts files before now command which = now ≡ before
 
 abbrev pub IsCut : Option Files → Option (List ℕ) → Option (List ℕ) → Option Command → Which → Type 0
@@ -227,7 +227,7 @@ status_of (verdict.Invalid rule place) = Invalid rule
 
 -- where the files are fine and nothing failed, the command is done, or memory ran out
 abbrev pub Completes : Files → Command → Status → Type 0
-Completes files (Replay places with_bounds) status = CanReplay files places → (status ≡ Done) ⊎ (status ≡ Memory)
+Completes files (Replay places wish) status = CanReplay files places → (status ≡ Done) ⊎ (status ≡ Memory)
 Completes files (Check places report) status = (verdict : Verdict) → CanCheck files places report verdict → (status ≡ status_of verdict) ⊎ (status ≡ Memory)
 
 abbrev pub IsComplete : Option Files → Option Command → Status → Type 0

@@ -2,10 +2,13 @@
 use Rattle.std.specs.Prelude.{ℕ, Bool, List, [], ◌∷◌, ◌++◌, ◌<◌, ◌&&◌, nat_le, length, if◌then◌else◌, codes, ⊤}
 use Rattle.outage_rules.specs.Network.{Problem}
 use Rattle.grid_model.specs.Parts.{Parts}
+use Rattle.grid_model.specs.declared.history.Event.{Event}
 use Rattle.event_rules.specs.Rows.{row}
 use Rattle.history_rules.specs.Posed.{problem_after}
+use Rattle.event_rules.specs.Lines.{lines}
 use Rattle.history_rules.specs.Run.{counted, lines_within, history_of}
-use Rattle.history_rules.specs.Output.{entries, report, replay_text}
+use Rattle.history_rules.specs.Output.{entries, replay_text}
+use Rattle.history_rules.specs.Report.{report_text, refused_in}
 use Rattle.bound_table.specs.Table.{Table}
 use Rattle.bound_table.specs.Printed.{device_name, node_name, bounds_text}
 use Rattle.bound_table.specs.Tight.{tight_bounds}
@@ -18,6 +21,7 @@ use Rattle.bound_checker.specs.declared.rules.Place.TheVariants.{Node, Device, N
 use Rattle.bound_checker.specs.declared.rules.Verdict.{Verdict}
 use Rattle.bound_checker.specs.declared.rules.Verdict.TheVariants.{Valid, Invalid}
 use Rattle.outage_cli.specs.Files.{most_events, most_event_lines, lines_taken}
+use Rattle.command_words.specs.declared.words.Wish.{Wish}
 
 -- the problem that all events pose
 unfoldable pub last_problem : Parts → List ℕ → Problem
@@ -27,9 +31,13 @@ last_problem g events = problem_after g (history_of g events)
 abbrev pub bounds_part : Parts → List ℕ → Bool → List ℕ
 bounds_part g events with_bounds = if with_bounds then bounds_text g (tight_bounds (last_problem g events)) else []
 
+-- what stands behind the entries after events, where so many lines were refused: the report with the indices of the period that is wished, and the bounds where they are
+unfoldable pub report_after : Parts → Wish → ℕ → List Event → List ℕ
+report_after g wish refused h = report_text g wish.period refused h ++ (if wish.with_bounds then bounds_text g (tight_bounds (problem_after g h)) else [])
+
 -- all that a replay writes
-unfoldable pub output : Parts → List ℕ → Bool → List ℕ
-output g events with_bounds = replay_text g events ++ bounds_part g events with_bounds
+unfoldable pub output : Parts → List ℕ → Wish → List ℕ
+output g events wish = replay_text g wish.period events ++ bounds_part g events wish.with_bounds
 
 -- the events are within the limits of bytes and of lines
 abbrev pub is_within_limits : List ℕ → Bool
@@ -40,9 +48,8 @@ unfoldable pub entries_taken : Parts → List ℕ → List ℕ
 entries_taken g bytes = entries g 1 [] (lines_taken bytes)
 
 -- all that a replay of these bytes is to write: the output, or the entries alone where a limit is met
-unfoldable pub text_due : Parts → List ℕ → Bool → List ℕ
-text_due g bytes with_bounds =
-    entries_taken g bytes ++ (if is_within_limits bytes then report g (history_of g bytes) ++ bounds_part g bytes with_bounds else [])
+unfoldable pub text_due : Parts → List ℕ → Wish → List ℕ
+text_due g bytes wish = entries_taken g bytes ++ (if is_within_limits bytes then report_text g wish.period (refused_in g [] (lines bytes)) (history_of g bytes) ++ bounds_part g bytes wish.with_bounds else [])
 
 -- the verdict of the local check on bounds
 unfoldable pub verdict_on : Parts → List ℕ → Table → Verdict

@@ -2,8 +2,8 @@
 ghost use Rattle.std.specs.Prelude.{◌≡◌, ◌<◌, ◌≤◌, Some, IfOk, IfErr, IsErrOf};
 ghost use Rattle.outage_ports.specs.Causes.{Rose};
 ghost use Rattle.bound_table.specs.Sound.{IsTableOf};
-ghost use Rattle.outage_cli.specs.Form.{Check};
-ghost use Rattle.outage_cli.specs.Places.{places_view};
+ghost use Rattle.command_words.specs.Forms.{Check};
+ghost use Rattle.command_words.specs.Seen.{places_view};
 ghost use Rattle.outage_cli.specs.Run.{IsSilent};
 ghost use Rattle.outage_cli.specs.Ended.{IsEnd, DidSayBounds, IsReportStop};
 
@@ -11,9 +11,9 @@ use crate::engine_run::run_engine;
 use crate::nowhere::Nowhere;
 use crate::verdicts::{status_by, text_of, verdict_by};
 use crate::whole::{MOST_REPORT, Stop, read_whole};
-use crate::words::Places;
 use crate::{Status, Which};
 use bound_table::{BoundFault, Bounds, read_bounds};
+use command_words::Places;
 use grid_model::Grid;
 use outage_ports::{Shelf, Sink, put_all};
 use std::alloc::Global;
@@ -72,16 +72,16 @@ pub(crate) fn run_check<S: Shelf, K: Sink>(
     ensures idle { IsSilent (Some (Check (places_view places.entry) report.now)) result → out.new ≡ out.old }
     ensures ended { IsEnd (S.files shelf.old) (S.left shelf.new) (K.written out.old) (K.written out.new) (Some (Check (places_view places.entry) report.now)) result }
 {
-    let engine = match run_engine(alloc, places, shelf, &mut Nowhere) {
-        Ok(engine) => engine,
+    let ran = match run_engine(alloc, places, shelf, &mut Nowhere) {
+        Ok(ran) => ran,
         Err(status) => return status,
     };
-    let grid = engine.grid();
+    let grid = ran.engine.grid();
     let bounds = match read_report(alloc, grid, report, shelf) {
         Ok(bounds) => bounds,
         Err(status) => return status,
     };
-    let Ok(verdict) = verdict_by(alloc, &engine, &bounds) else {
+    let Ok(verdict) = verdict_by(alloc, &ran.engine, &bounds) else {
         return Status::Memory;
     };
     let Ok(text) = text_of(alloc, grid, verdict) else {

@@ -1,21 +1,29 @@
 //! From the files of a network and its events to the engine after them.
-ghost use Rattle.std.specs.Prelude.{◌≡◌, ◌≤◌, ◌<◌, Bool, Some, IfOk, IfErr, IsErrOf};
+ghost use Rattle.std.specs.Prelude.{◌≡◌, ◌≤◌, ◌<◌, Some, IfOk, IfErr, IsErrOf};
 ghost use Rattle.outage_ports.specs.Causes.{Rose};
 ghost use Rattle.outage_engine.specs.Engined.{IsEngine};
-ghost use Rattle.outage_cli.specs.Form.{Replay};
-ghost use Rattle.outage_cli.specs.Places.{places_view};
+ghost use Rattle.command_words.specs.Forms.{Replay};
+ghost use Rattle.command_words.specs.Seen.{places_view};
 ghost use Rattle.outage_cli.specs.Run.{IsSilentReplay};
+ghost use Rattle.command_words.specs.declared.words.Wish.{Wish};
 ghost use Rattle.outage_cli.specs.Ended.{IsEnd, DidRun, DidSayNetwork, IsNetworkStop};
 
 use crate::reading::{EventsStop, run_events};
 use crate::whole::{MOST_NETWORK, Stop, read_whole};
-use crate::words::Places;
 use crate::{Status, Which};
+use command_words::Places;
 use grid_model::Grid;
 use grid_reader::{GridFault, read_grid};
 use outage_engine::Engine;
 use outage_ports::{Shelf, Sink};
 use std::alloc::Global;
+
+/// A run over all events: the engine after them, and how many of their lines were refused.
+#[derive(Drop)]
+pub(crate) struct Ran {
+    pub(crate) engine: Engine,
+    pub(crate) refused: u64,
+}
 
 // The network of a file.
 fn read_network<S: Shelf>(alloc: Global, name: &str, shelf: &mut S) -> Result<Grid, Status>
@@ -45,7 +53,7 @@ fn read_network<S: Shelf>(alloc: Global, name: &str, shelf: &mut S) -> Result<Gr
     }
 }
 
-/// The engine after all events: reads the network whole, and then the events in pieces, whose
+/// The run over all events: reads the network whole, and then the events in pieces, whose
 /// entries it writes. Where it stops before their end, the error is the status of a replay that
 /// ends there.
 pub(crate) fn run_engine<S: Shelf, K: Sink>(
@@ -53,13 +61,14 @@ pub(crate) fn run_engine<S: Shelf, K: Sink>(
     places: Places<'_>,
     shelf: &mut S,
     out: &mut K,
-) -> Result<Engine, Status>
+) -> Result<Ran, Status>
     requires net { S.allows places.net.now }
     requires events { S.allows places.events.now }
     ensures files { S.files shelf.new ≡ S.files shelf.old }
-    ensures engine { IfOk result IsEngine }
-    ensures ran { IfOk result (DidRun (S.files shelf.old) (places_view places.entry) (S.left shelf.new) (K.written out.old) (K.written out.new)) }
-    ensures stopped { IfErr result (λ status. (with_bounds : Bool) → IsEnd (S.files shelf.old) (S.left shelf.new) (K.written out.old) (K.written out.new) (Some (Replay (places_view places.entry) with_bounds)) status) }
+    ensures engine { IfOk result (λ ran. IsEngine ran.engine) }
+    ensures few { IfOk result (λ ran. ran.engine.field.applied ≤ 2_000_000) }
+    ensures ran { IfOk result (λ ran. DidRun (S.files shelf.old) (places_view places.entry) (S.left shelf.new) (K.written out.old) (K.written out.new) ran.engine ran.refused) }
+    ensures stopped { IfErr result (λ status. (wish : Wish) → IsEnd (S.files shelf.old) (S.left shelf.new) (K.written out.old) (K.written out.new) (Some (Replay (places_view places.entry) wish)) status) }
     ensures not_done { IsErrOf result Status.Done → ⊥ }
     ensures no_usage { IsErrOf result Status.Usage → ⊥ }
     ensures idle { IfErr result (λ status. IsSilentReplay status → out.new ≡ out.old) }
@@ -78,7 +87,7 @@ pub(crate) fn run_engine<S: Shelf, K: Sink>(
         return Err(Status::Memory);
     };
     match run_events(alloc, shelf, places.events, &mut engine, out) {
-        Ok(()) => Ok(engine),
+        Ok(refused) => Ok(Ran { engine, refused }),
         Err(EventsStop::ReadFailed) => Err(Status::ReadFault),
         Err(EventsStop::WriteFailed) => Err(Status::WriteFault),
         Err(EventsStop::TooManyLines) => Err(Status::Limit {

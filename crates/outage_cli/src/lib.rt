@@ -4,19 +4,17 @@
 
 mod check_run;
 mod engine_run;
-mod entries;
 mod main_call;
 mod nowhere;
 mod reading;
 mod replay_run;
-mod report;
 mod round_trip;
 mod run;
 mod status;
 mod taken;
+mod unread;
 mod verdicts;
 mod whole;
-mod words;
 
 pub use main_call::outage_main;
 pub use round_trip::replay_is_valid;

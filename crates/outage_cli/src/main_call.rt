@@ -1,5 +1,5 @@
 //! The top call.
-ghost use Rattle.std.specs.Prelude.{◌≡◌, ◌↔◌, ◌<◌, ◌≤◌, ℕ, map, string_bytes, None};
+ghost use Rattle.std.specs.Prelude.{◌≡◌, ◌⊎◌, ◌<◌, ◌≤◌, ℕ, map, string_bytes, None};
 ghost use Rattle.outage_ports.specs.Causes.{Rose};
 ghost use Rattle.bound_table.specs.declared.bounds.BoundRule.{BoundRule};
 ghost use Rattle.bound_checker.specs.declared.rules.CheckRule.{CheckRule};
@@ -7,7 +7,7 @@ ghost use Rattle.grid_reader.specs.declared.fault.GridRule.{GridRule};
 ghost use Rattle.outage_cli.specs.declared.status.Which.{Which};
 ghost use Rattle.history_rules.specs.RunLaws.{LinesFollowRules};
 ghost use Rattle.history_rules.specs.Shown.{DiagnosisIsPrinted};
-ghost use Rattle.outage_cli.specs.Form.{command_of, Allows};
+ghost use Rattle.command_words.specs.Forms.{command_of, Allows};
 ghost use Rattle.outage_cli.specs.Run.{IsSilent, IsDone, IsInvalid, IsRefused, IsReportRefused, IsLimit, IsLeft, IsCut, IsPart, IsPartAtMost, IsComplete, IsDue};
 ghost use Rattle.outage_cli.specs.RoundTrip.{IsOwnConfirmed};
 
@@ -15,13 +15,14 @@ use crate::Status;
 use crate::check_run::run_check;
 use crate::replay_run::run_replay;
 use crate::round_trip::replay_is_valid;
-use crate::words::{Command, read_words};
+use command_words::{Command, WordsFault, read_words};
 use history_rules::{diagnosis_is_printed, lines_follow_rules};
 use outage_ports::{Shelf, Sink};
 use std::alloc::Global;
 
 /// Does all that the program does: `replay NET EVENTS` reads the network whole and the events in
-/// pieces and writes what each event changes, with `--bounds` also the table that shows the least
+/// pieces and writes what each event changes, and then the report, with the indices of the period
+/// from `--from T` on and up to `--to T`, and with `--bounds` also the table that shows the least
 /// cost; `check NET EVENTS REPORT` writes whether the table of a report shows it.
 ///
 /// The words are the program's name, which isn't read, and the command's. What is said of the
@@ -35,9 +36,10 @@ pub fn outage_main<S: Shelf, K: Sink>(
 ) -> Status
     requires { Allows S.allows (command_of (map string_bytes words.now)) }
 
-    // Words of no form, and nothing is read or written then.
-    ensures usage { (result ≡ Status.Usage) ↔ (command_of (map string_bytes words.now) ≡ None) }
-    ensures untouched { result ≡ Status.Usage → (shelf.new ≡ shelf.old) × (out.new ≡ out.old) }
+    // Words of no form, and nothing is read or written then. Reading the words takes memory too.
+    ensures usage { result ≡ Status.Usage → command_of (map string_bytes words.now) ≡ None }
+    ensures no_form { command_of (map string_bytes words.now) ≡ None → (result ≡ Status.Usage) ⊎ (result ≡ Status.Memory) }
+    ensures untouched { command_of (map string_bytes words.now) ≡ None → (shelf.new ≡ shelf.old) × (out.new ≡ out.old) }
 
     ensures shelf_later { S.faults shelf.old ≤ S.faults shelf.new }
     ensures read { result ≡ Status.ReadFault → Rose (S.faults shelf.old) (S.faults shelf.new) }
@@ -72,11 +74,10 @@ pub fn outage_main<S: Shelf, K: Sink>(
     replay_is_valid();
     lines_follow_rules();
     diagnosis_is_printed();
-    match read_words(words) {
-        Some(Command::Replay(places, with_bounds)) => {
-            run_replay(alloc, places, with_bounds, shelf, out)
-        }
-        Some(Command::Check(places, report)) => run_check(alloc, places, report, shelf, out),
-        None => Status::Usage,
+    match read_words(alloc, words) {
+        Ok(Command::Replay(places, wish)) => run_replay(alloc, places, wish, shelf, out),
+        Ok(Command::Check(places, report)) => run_check(alloc, places, report, shelf, out),
+        Err(WordsFault::Usage) => Status::Usage,
+        Err(WordsFault::Memory) => Status::Memory,
     }
 }

@@ -70,21 +70,22 @@ fn put_entries<K: Sink>(
     }
 }
 
-/// Reads the events of a file piece by piece, applies or refuses each, and writes the entries of
-/// the lines that end in a piece before the next is read.
+/// How many event lines of a file were refused: reads it piece by piece, applies or refuses each
+/// event, and writes the entries of the lines that end in a piece before the next is read.
 pub(crate) fn run_events<S: Shelf, K: Sink>(
     alloc: Global,
     shelf: &mut S,
     name: &str,
     engine: &mut Engine,
     out: &mut K,
-) -> Result<(), EventsStop>
+) -> Result<u64, EventsStop>
     requires allowed { S.allows name.now }
     requires engine { IsEngineAfter [] engine.old }
     ensures files { S.files shelf.new ≡ S.files shelf.old }
     ensures grid { engine.new.grid ≡ engine.old.grid }
     ensures engine { IsEngine engine.new }
-    ensures all { IfOk result (λ _. DidReadAll (S.files shelf.old) name.now (S.left shelf.new) (K.written out.old) (K.written out.new) engine.old.grid engine.new) }
+    ensures few { IfOk result (λ _. engine.new.field.applied ≤ 2_000_000) }
+    ensures all { IfOk result (DidReadAll (S.files shelf.old) name.now (S.left shelf.new) (K.written out.old) (K.written out.new) engine.old.grid engine.new) }
     ensures stops { IsErrOf result EventsStop.ReadFailed → DidStop (S.files shelf.old) name.now (K.written out.old) (K.written out.new) engine.old.grid }
     ensures lines { IsErrOf result EventsStop.TooManyLines → DidMeetLines (S.files shelf.old) name.now (K.written out.old) (K.written out.new) engine.old.grid }
     ensures bytes { IsErrOf result EventsStop.TooManyBytes → DidMeetBytes (S.files shelf.old) name.now (K.written out.old) (K.written out.new) engine.old.grid }
@@ -112,14 +113,12 @@ pub(crate) fn run_events<S: Shelf, K: Sink>(
             Err(_) => return Err(EventsStop::ReadFailed),
         };
         if count == 0 {
-            let taken = run.end(alloc, engine);
-            return put_entries(out, &mut run, taken);
+            let last = run.end(alloc, engine);
+            put_entries(out, &mut run, last)?;
+            return Ok(run.taken.refused(engine));
         }
         let taken = run.take_piece(alloc, engine, &piece[..count.min(room)]);
-        let put = put_entries(out, &mut run, taken);
-        if put.is_err() {
-            return put;
-        }
+        put_entries(out, &mut run, taken)?;
         if count > room {
             return Err(EventsStop::TooManyBytes);
         }

@@ -1,25 +1,51 @@
 //! A replay over a shelf and a sink.
-ghost use Rattle.std.specs.Prelude.{◌≡◌, ◌<◌, ◌≤◌, Some};
+ghost use Rattle.std.specs.Prelude.{◌≡◌, ◌<◌, ◌≤◌, List, Some, OnOk, IsErrOf};
+ghost use Rattle.std.specs.Io.KnownBytes.{Appends};
+ghost use Rattle.grid_model.specs.declared.history.Event.{Event};
+ghost use Rattle.outage_ports.specs.Bytes.{AppendsPrefix};
 ghost use Rattle.outage_ports.specs.Causes.{Rose};
-ghost use Rattle.outage_cli.specs.Form.{Replay};
-ghost use Rattle.outage_cli.specs.Places.{places_view};
+ghost use Rattle.outage_engine.specs.Engined.{IsEngineAfter, IsEngine};
+ghost use Rattle.command_words.specs.Forms.{Replay};
+ghost use Rattle.command_words.specs.Seen.{places_view};
+ghost use Rattle.outage_cli.specs.Told.{report_after};
 ghost use Rattle.outage_cli.specs.Run.{IsSilent};
 ghost use Rattle.outage_cli.specs.Ended.{IsEnd};
+ghost use Rattle.report_text.specs.declared.put.PutFault.TheVariants.{Write};
 
 use crate::Status;
-use crate::engine_run::run_engine;
-use crate::report::last_text;
-use crate::words::Places;
+use crate::engine_run::{Ran, run_engine};
+use command_words::{Places, Wish};
 use grid_reader::text_is_sound;
 use history_rules::{history_is_diagnosed, lines_of_limit};
-use outage_ports::{Shelf, Sink, put_all};
+use outage_ports::{Shelf, Sink};
+use report_text::{PutFault, put_bounds_part, put_report};
 use std::alloc::Global;
+
+// Writes what stands behind the entries: the report, and where they are asked for the bounds that
+// show the least cost.
+fn put_rest<K: Sink>(alloc: Global, out: &mut K, ran: &Ran, wish: Wish) -> Result<(), PutFault>
+    requires engine { IsEngine ran.now.engine }
+    requires few { ran.now.engine.field.applied ≤ 2_000_000 }
+    ensures whole { OnOk result ((h : List Event) → IsEngineAfter h ran.now.engine
+        → Appends (K.written out.old) (K.written out.new) (report_after ran.now.engine.grid wish ran.now.refused h)) }
+    ensures part { (h : List Event) → IsEngineAfter h ran.now.engine
+        → AppendsPrefix (K.written out.old) (K.written out.new) (report_after ran.now.engine.grid wish ran.now.refused h) }
+    ensures later { K.faults out.old ≤ K.faults out.new }
+    ensures failed { IsErrOf result Write → Rose (K.faults out.old) (K.faults out.new) }
+    ensures only_failed { K.faults out.old < K.faults out.new → IsErrOf result Write }
+{
+    put_report(alloc, out, &ran.engine, ran.refused, wish.period)?;
+    if wish.with_bounds {
+        put_bounds_part(alloc, out, &ran.engine)?;
+    }
+    Ok(())
+}
 
 /// Reads the network and the events, and writes the replay.
 pub(crate) fn run_replay<S: Shelf, K: Sink>(
     alloc: Global,
     places: Places<'_>,
-    with_bounds: bool,
+    wish: Wish,
     shelf: &mut S,
     out: &mut K,
 ) -> Status
@@ -32,21 +58,19 @@ pub(crate) fn run_replay<S: Shelf, K: Sink>(
     ensures out_later { K.faults out.old ≤ K.faults out.new }
     ensures write { result ≡ Status.WriteFault → Rose (K.faults out.old) (K.faults out.new) }
     ensures write_risen { K.faults out.old < K.faults out.new → result ≡ Status.WriteFault }
-    ensures idle { IsSilent (Some (Replay (places_view places.entry) with_bounds)) result → out.new ≡ out.old }
-    ensures ended { IsEnd (S.files shelf.old) (S.left shelf.new) (K.written out.old) (K.written out.new) (Some (Replay (places_view places.entry) with_bounds)) result }
+    ensures idle { IsSilent (Some (Replay (places_view places.entry) wish)) result → out.new ≡ out.old }
+    ensures ended { IsEnd (S.files shelf.old) (S.left shelf.new) (K.written out.old) (K.written out.new) (Some (Replay (places_view places.entry) wish)) result }
 {
     text_is_sound();
     history_is_diagnosed();
     lines_of_limit();
-    let engine = match run_engine(alloc, places, shelf, out) {
-        Ok(engine) => engine,
+    let ran = match run_engine(alloc, places, shelf, out) {
+        Ok(ran) => ran,
         Err(status) => return status,
     };
-    let Ok(text) = last_text(alloc, &engine, with_bounds) else {
-        return Status::Memory;
-    };
-    match put_all(out, &text) {
+    match put_rest(alloc, out, &ran, wish) {
         Ok(()) => Status::Done,
-        Err(_) => Status::WriteFault,
+        Err(PutFault::Write) => Status::WriteFault,
+        Err(PutFault::Memory) => Status::Memory,
     }
 }

@@ -9,9 +9,9 @@ use outage_rules::{
     distance_is_bounded, least_is_bounded, reference_table_is_exact, rows_are_bounded,
 };
 
-/// For every network text and every events text: what a replay writes with its bounds is read as
-/// the tight bounds of all events, and the local check by the same network and events finds them
-/// valid.
+/// For every network text, every events text and every period: what a replay writes with its bounds
+/// is read as the tight bounds of all events, and the local check by the same network and events
+/// finds them valid.
 pub fn replay_is_valid()
     ensures { ReplayIsValid }
 {

@@ -5,16 +5,18 @@ ghost use Rattle.event_rules.specs.Lines.{most_line};
 ghost use Rattle.history_rules.specs.Posed.{IsOfGrid, refusal_of, joined};
 ghost use Rattle.history_rules.specs.Run.{outcome_by};
 ghost use Rattle.history_rules.specs.Output.{entry, refused_row};
+ghost use Rattle.history_rules.specs.Report.{refused_in};
 ghost use Rattle.outage_engine.specs.Engined.{Engined, IsEngineAfter, IsEngine};
-ghost use Rattle.outage_cli.specs.Entered.{rule_of};
+ghost use Rattle.report_text.specs.Entered.{rule_of};
 ghost use Rattle.outage_cli.specs.Pieces.{HasTaken, HasTakenSome, IsOneTooMany};
 
-use crate::entries::{LineRule, put_changes, put_refused, rule_in};
+use crate::unread::rule_in;
 use event_reader::read_event;
 use event_rules::ReadRule;
 use grid_model::Event;
-use history_rules::run_of_parts;
+use history_rules::{refused_are_the_rest, run_of_parts};
 use outage_engine::Engine;
+use report_text::{LineRule, put_changes, put_refused};
 use std::alloc::{AllocError, Global};
 
 /// The greatest number of event lines that aren't skipped.
@@ -60,6 +62,16 @@ impl Taken {
             counted: 0,
             entries: Vec::new(alloc),
         }
+    }
+
+    /// How many of the lines were refused, whose events the engine has taken: those that count and
+    /// whose event wasn't applied.
+    pub(crate) fn refused(&self, engine: &Engine) -> u64
+        requires { HasTakenSome self.now engine.now }
+        ensures { (lines : List (List ℕ)) (written : List ℕ) → HasTaken lines written self.now engine.now → result ≡ refused_in engine.now.grid [] lines }
+    {
+        refused_are_the_rest();
+        u64::from(self.counted) - engine.field().applied()
     }
 
     // Numbers and counts the next line, which isn't skipped.
@@ -116,6 +128,7 @@ impl Taken {
     {
         self.count()?;
         let number = self.number;
+        engine.reserve()?;
         match engine.apply(event) {
             Ok(applied) => {
                 let (grid, judged) = (engine.grid(), engine.judged());

@@ -64,8 +64,26 @@ pub(crate) fn run_by_pieces(
     requires { 1 ≤ piece }
 {
     let mut files = shelf(alloc, net, events, Vec::new(alloc), piece)?;
-    let mut out = MemorySink::new(alloc, Vec::new(alloc), 7, 400)?;
+    let mut out = MemorySink::new(alloc, Vec::new(alloc), 7, 1000)?;
     let given = words(alloc, &["outage", "replay", "n", "e"])?;
+    let status = outage_main(alloc, &given, &mut files, &mut out);
+    assert!(rt; status == Status::Done);
+    assert_eq!(rt; out.bytes(), written.as_bytes());
+    Ok(())
+}
+
+// Compares what a replay of a network and events by these words writes.
+pub(crate) fn run_words(
+    rt: &impl Abort,
+    alloc: Global,
+    net: &str,
+    events: &str,
+    given: &[&str],
+    written: &str,
+) -> Result<(), AllocError> {
+    let mut files = shelf(alloc, net, events.as_bytes(), Vec::new(alloc), 5)?;
+    let mut out = MemorySink::new(alloc, Vec::new(alloc), 7, 1000)?;
+    let given = words(alloc, given)?;
     let status = outage_main(alloc, &given, &mut files, &mut out);
     assert!(rt; status == Status::Done);
     assert_eq!(rt; out.bytes(), written.as_bytes());
@@ -85,12 +103,31 @@ fn replays(rt: HostRuntime) -> Result<(), Fail> {
         Case {
             net: NET,
             events: CALLS,
-            written: "cost,1,30\nenters,2,F1\ncost,2,40\ntotal,40\nend\n",
+            written: WRITTEN,
         },
         Case {
             net: NET,
             events: "",
-            written: "total,0\nend\n",
+            written: "report,none\n\
+counts,0,0\n\
+total,0\n\
+index,saifi,0/1,0.0000\n\
+index,saidi,0/1,0.0000\n\
+index,caidi,none\n\
+end\n",
+        },
+        Case {
+            net: NET,
+            events: "2024-03-01T10:00:00Z,call,M1\n",
+            written: "cost,1,30\n\
+report,2024-03-01T10:00:00Z\n\
+counts,1,0\n\
+total,30\n\
+unexplained,M1,dark,30\n\
+index,saifi,0/1,0.0000\n\
+index,saidi,0/1,0.0000\n\
+index,caidi,none\n\
+end\n",
         },
     ];
     run_cases(&rt, rt.alloc(), &cases)?;
@@ -112,7 +149,7 @@ fn run_failing(
     written: &str,
 ) -> Result<(), AllocError> {
     let mut files = shelf(alloc, net, CALLS.as_bytes(), mishaps, 1)?;
-    let mut out = MemorySink::new(alloc, failing, 1, 200)?;
+    let mut out = MemorySink::new(alloc, failing, 1, 1000)?;
     let given = words(alloc, &["outage", "replay", "n", "e"])?;
     let status = outage_main(alloc, &given, &mut files, &mut out);
     assert!(rt; status == want);
@@ -182,7 +219,7 @@ fn run_idle(
     want: Status,
 ) -> Result<(), AllocError> {
     let mut files = shelf(alloc, NET, CALLS.as_bytes(), Vec::new(alloc), 5)?;
-    let mut out = MemorySink::new(alloc, Vec::new(alloc), 7, 200)?;
+    let mut out = MemorySink::new(alloc, Vec::new(alloc), 7, 1000)?;
     let given = words(alloc, texts)?;
     let status = outage_main(alloc, &given, &mut files, &mut out);
     assert_eq!(rt; status, want);
@@ -207,19 +244,33 @@ fn writes_nothing(rt: HostRuntime) -> Result<(), Fail> {
     )?;
     run_idle(&rt, alloc, &["outage", "replay", "n"], Status::Usage)?;
     run_idle(&rt, alloc, &["outage", "replay", "n", "-e"], Status::Usage)?;
-    run_idle(&rt, alloc, &["outage", "trial", "n", "e"], Status::Usage)?;
+    run_idle(&rt, alloc, &["outage", "trial", "0"], Status::Usage)?;
+    run_idle(&rt, alloc, &["outage"], Status::Usage)?;
     Ok(())
 }
 
-// The report of the worked run: its entries, and its bounds part with these lines.
-const ENTRIES: &str = "cost,1,30\nenters,2,F1\ncost,2,40\ntotal,40\nend\n";
+// What the worked run writes without its bounds part, and its bounds part.
+const WRITTEN: &str = "cost,1,30\n\
+enters,2,F1\n\
+cost,2,40\n\
+report,2024-03-01T10:01:00Z\n\
+counts,2,0\n\
+total,40\n\
+outage,F1,none,2,30,2024-03-01T10:00:00Z,plain\n\
+crew,1,F1\n\
+line,M1,2024-03-01T10:01:00Z,open\n\
+line,M2,2024-03-01T10:01:00Z,open\n\
+index,saifi,0/1,0.0000\n\
+index,saidi,0/1,0.0000\n\
+index,caidi,none\n\
+end\n";
 
 const BOUNDS: &str = "bounds,40\ncut,F1\nrow,S,-,0,40,0\nrow,A,B1,1,40,0\nrow,C,F1,2,60,0\n\
 row,D,T1,2,0,0\nrow,E,T2,2,0,0\nendbounds\n";
 
 // The report of the worked run with another bounds part.
 fn report(alloc: Global, bounds: &str) -> Result<String, AllocError> {
-    let mut text = String::from_str(alloc, ENTRIES)?;
+    let mut text = String::from_str(alloc, WRITTEN)?;
     text.push_str(bounds)?;
     Ok(text)
 }
@@ -232,13 +283,8 @@ pub(crate) fn run_with_bounds(
     events: &str,
     written: &str,
 ) -> Result<(), AllocError> {
-    let mut files = shelf(alloc, net, events.as_bytes(), Vec::new(alloc), 5)?;
-    let mut out = MemorySink::new(alloc, Vec::new(alloc), 7, 400)?;
-    let given = words(alloc, &["outage", "replay", "n", "e", "--bounds"])?;
-    let status = outage_main(alloc, &given, &mut files, &mut out);
-    assert!(rt; status == Status::Done);
-    assert!(rt; out.bytes() == written.as_bytes());
-    Ok(())
+    let given = ["outage", "replay", "n", "e", "--bounds"];
+    run_words(rt, alloc, net, events, &given, written)
 }
 
 #[test]
@@ -264,7 +310,7 @@ pub(crate) fn check_report(
     files.push(file(alloc, "e", events.as_bytes())?)?;
     files.push(file(alloc, "r", report.as_bytes())?)?;
     let mut given_files = MemoryShelf::new(files, Vec::new(alloc), 5);
-    let mut out = MemorySink::new(alloc, Vec::new(alloc), 7, 400)?;
+    let mut out = MemorySink::new(alloc, Vec::new(alloc), 7, 1000)?;
     let given = words(alloc, &["outage", "check", "n", "e", "r"])?;
     let status = outage_main(alloc, &given, &mut given_files, &mut out);
     assert!(rt; status == want);
@@ -349,7 +395,7 @@ fn checks_forms(rt: HostRuntime) -> Result<(), Fail> {
     )?;
     let unended =
         "bounds,40\ncut,F1\nrow,S,-,0,40,0\nrow,A,B1,1,40,0\nrow,C,F1,2,60,0\nrow,D,T1,2,0,0\nrow,E,T2,2,0,0\n";
-    check_case(&rt, alloc, unended, refused(13, BoundRule::NoEnd), "")?;
-    check_case(&rt, alloc, "", refused(6, BoundRule::NoBounds), "")?;
+    check_case(&rt, alloc, unended, refused(22, BoundRule::NoEnd), "")?;
+    check_case(&rt, alloc, "", refused(15, BoundRule::NoBounds), "")?;
     Ok(())
 }

@@ -3,4 +3,5 @@ pub mod BoundingRows
 pub mod BoundingRange
 pub mod AfterEvents
 pub mod NoEvents
+pub mod Recorded
 pub mod SmallGrid

@@ -1,3 +1,4 @@
+pub mod Recording
 pub mod Engined
 pub mod EngineInside
 pub mod Bounding

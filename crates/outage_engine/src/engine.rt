@@ -1,23 +1,28 @@
-//! The engine: a network, its field after events, and what is judged of it.
+//! The engine: a network, its field after events, what is judged of it, and the ledger of
+//! interruptions.
 ghost use Rattle.std.specs.Prelude.{◌≡◌};
 
 use crate::Applied;
 use crate::bounds::bounds_of;
+use crate::recording::{first_ledger, record_meters};
 use bound_table::Bounds;
 use diagnosis::Judged;
 use field_state::{Field, field_poses};
-use grid_model::{Event, Grid, Refusal};
+use grid_model::{Event, Grid, Refusal, Stamp};
 use history_rules::history_is_diagnosed;
+use interruption_ledger::{Ledger, ledger_is_kept};
 use outage_rules::{diagnosis_is_one, one_least_cost};
 use std::alloc::{AllocError, Global};
 use std::marker::Model;
 
-/// A network with the state of its field after events, and the diagnosis of that state.
+/// A network with the state of its field after events, the diagnosis of that state, and the
+/// interruptions of its meters.
 #[derive(Drop)]
 pub struct Engine {
     grid: Grid,
     field: Field,
     judged: Judged,
+    ledger: Ledger,
 }
 
 impl Model for Engine {
@@ -31,7 +36,7 @@ impl Model for Engine {
 }
 
 impl Engine {
-    ghost use Rattle.std.specs.Prelude.{◌≡◌, ◌≤◌, ◌<◌, ◌^◌, ℕ, List, [], length, map, Ok, Err, IfOk};
+    ghost use Rattle.std.specs.Prelude.{◌≡◌, ◌≤◌, ◌<◌, ◌+◌, ◌^◌, ℕ, List, [], ◌∷◌, length, map, Ok, Err, IfOk, OnErr};
     ghost use Rattle.grid_model.specs.declared.history.Event.{Event};
     ghost use Rattle.grid_model.specs.declared.history.Refusal.{Refusal};
     ghost use Rattle.history_rules.specs.Posed.{problem_after, refusal_of, joined, IsOfGrid};
@@ -40,6 +45,7 @@ impl Engine {
     ghost use Rattle.bound_table.specs.Sound.{IsTableOf};
     ghost use Rattle.field_state.specs.Fielded.{IsFieldAfter, IsField};
     ghost use Rattle.outage_engine.specs.declared.Applied.{Applied};
+    ghost use Rattle.outage_engine.specs.Recording.{IsLedgerAfter};
     ghost use Rattle.outage_engine.specs.Engined.{IsEngineAfter, IsEngine, answer_by};
 
     /// The engine of a network before any event. An error says that memory ran out.
@@ -53,26 +59,56 @@ impl Engine {
         one_least_cost();
         let field = Field::new(alloc, &grid)?;
         let judged = Judged::new(alloc, &grid)?;
+        let ledger = first_ledger(alloc, &grid, &judged)?;
         Ok(Engine {
             grid,
             field,
             judged,
+            ledger,
         })
     }
 
-    // Judges what the field poses.
-    fn judge(&mut self)
+    /// Makes room for the lines that one event can end: at least one a meter. An error says that
+    /// memory ran out, and changes nothing.
+    pub fn reserve(&mut self) -> Result<(), AllocError>
+        ensures grid { self.new.grid ≡ self.old.grid }
+        ensures field { self.new.field ≡ self.old.field }
+        ensures judged { self.new.judged ≡ self.old.judged }
+        ensures meters { self.new.ledger.meters ≡ self.old.ledger.meters }
+        ensures room { IfOk result (λ _. length self.new.grid.meters ≤ self.new.ledger.spare) }
+        ensures refused { OnErr result (self.new ≡ self.old) }
+        ensures already { length self.old.grid.meters ≤ self.old.ledger.spare → result ≡ Ok tt }
+        ensures after { (h : List Event) → IsEngineAfter h self.old → IsEngineAfter h self.new }
+        ensures engine { IsEngine self.old → IsEngine self.new }
+    {
+        self.ledger.reserve(self.grid.meters())
+    }
+
+    /// For how many more ended lines there is room.
+    pub fn spare(&self) -> u64
+        ensures { result ≡ self.now.ledger.spare }
+    {
+        self.ledger.spare()
+    }
+
+    // Judges what the field poses, and records which meters went dark or live at the time.
+    fn judge(&mut self, at: Stamp)
         requires field { IsField self.old.grid self.old.field }
         requires own { IsOfNetwork self.old.grid self.old.judged }
         requires sized { IsSized (length self.old.grid.nodes) (length self.old.grid.devices) self.old.judged }
+        requires each { length self.old.ledger.meters ≡ length self.old.grid.meters }
+        requires spare { length self.old.grid.meters ≤ self.old.ledger.spare }
+        requires range { at.0 ≤ 253_402_300_799 }
         ensures grid { self.new.grid ≡ self.old.grid }
-        ensures after { (h : List Event) → IsFieldAfter self.old.grid h self.old.field → IsEngineAfter h self.new }
+        ensures after { (h : List Event) (e : Event) → e.time ≡ at → IsFieldAfter self.old.grid (e ∷ h) self.old.field → IsLedgerAfter self.old.grid h self.old.ledger → IsEngineAfter (e ∷ h) self.new }
         ensures changed { map (λ d. d.0) self.new.judged.changed ≡ differences self.old.judged.opened self.new.judged.opened }
+        ensures spare { self.old.ledger.spare ≤ self.new.ledger.spare + length self.old.grid.meters }
     {
         field_poses();
         history_is_diagnosed();
         diagnosis_is_one();
         one_least_cost();
+        ledger_is_kept();
         self.judged.recompute(
             &self.grid,
             self.field.closed(),
@@ -80,25 +116,28 @@ impl Engine {
             self.field.dark_weights(),
             self.field.live_weights(),
         );
+        record_meters(&self.grid, &self.judged, &mut self.ledger, at);
     }
 
     /// Applies an event, or refuses it by the first rule that it breaks: then everything stands as
-    /// before. Takes no memory.
+    /// before. Takes no memory, but room for a line a meter.
     pub fn apply(&mut self, event: Event) -> Result<Applied, Refusal>
         requires engine { IsEngine self.old }
         requires of_grid { IsOfGrid self.old.grid event.what }
         requires range { event.time.0 ≤ 253_402_300_799 }
         requires room { self.old.field.applied < 2 ^ 32 }
+        requires spare { length self.old.grid.meters ≤ self.old.ledger.spare }
         ensures grid { self.new.grid ≡ self.old.grid }
         ensures answer { (h : List Event) → IsEngineAfter h self.old → result ≡ answer_by self.old.grid h event (refusal_of self.old.grid h event) }
         ensures refused { (rule : Refusal) → result ≡ Err rule → self.new ≡ self.old }
         ensures after { (h : List Event) → IsEngineAfter h self.old → IsEngineAfter (joined self.old.grid h event) self.new }
         ensures engine { IsEngine self.new }
         ensures changed { (applied : Applied) → result ≡ Ok applied → map (λ d. d.0) self.new.judged.changed ≡ differences self.old.judged.opened self.new.judged.opened }
+        ensures spare { self.old.ledger.spare ≤ self.new.ledger.spare + length self.old.grid.meters }
     {
         let cost_before = self.judged.cost();
         self.field.apply(&self.grid, event)?;
-        self.judge();
+        self.judge(event.time);
         Ok(Applied {
             cost_before,
             cost_after: self.judged.cost(),
@@ -124,6 +163,13 @@ impl Engine {
         ensures { result.now ≡ self.now.judged }
     {
         &self.judged
+    }
+
+    /// The interruptions of the meters.
+    pub fn ledger(&self) -> &Ledger
+        ensures { result.now ≡ self.now.ledger }
+    {
+        &self.ledger
     }
 
     /// The bounds that show the least cost. An error says that memory ran out.

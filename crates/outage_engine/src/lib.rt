@@ -1,8 +1,10 @@
-//! The whole state behind one call: the field after events, and the diagnosis of it.
+//! The whole state behind one call: the field after events, the diagnosis of it, and the ledger of
+//! interruptions.
 #![tactic(auto)]
 
 mod bounds;
 mod engine;
+mod recording;
 
 pub use engine::Engine;
 

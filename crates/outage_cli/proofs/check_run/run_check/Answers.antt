@@ -1,15 +1,15 @@
-use Rattle.std.proofs.Common.{Some, ◌≡◌, ◌<◌, rules, false, sym, ap, ◌∙◌, subst}
+use Rattle.std.proofs.Common.{Some, ◌≡◌, ◌<◌, rules, sym, ap, ◌∙◌, subst}
 use Rattle.std.specs.Io.KnownBytes.{Appends}
 use Rattle.outage_ports.specs.Bytes.{AppendsPrefix}
-use Rattle.outage_cli.specs.Places.{places_view}
-use Rattle.outage_cli.specs.Form.{Check}
+use Rattle.command_words.specs.Seen.{places_view}
+use Rattle.command_words.specs.Forms.{Check}
 use Rattle.outage_cli.specs.Told.{verdict_text, IsVerdictOf}
 use Rattle.outage_cli.specs.Ended.{IsEnd, DidSayBounds, IsReportStop}
 use Rattle.outage_cli.proofs.VerdictPlaces.{placed_by}
 use Rattle.outage_cli.proofs.Ends.{not_risen}
 use Rattle.outage_cli.specs.Run.{IsSilent}
 use Rattle.outage_cli.specs.declared.status.Status.TheVariants.{ReadFault}
-use Rattle.outage_cli.proofs.CheckEnds.{never_silent, no_error, stopped_end, report_end, check_part_end, check_done_end}
+use Rattle.outage_cli.proofs.CheckEnds.{never_silent, no_error, no_wish, stopped_end, report_end, check_part_end, check_done_end}
 use Rattle.outage_cli.proofs.check_run.run_check.Goals as goal
 
 pub returns-in-Err-clause-ended : goal.returns-in-Err-clause-ended
@@ -21,20 +21,22 @@ returns-in-Err-clause-ended g c =
     _
     (g.K.Sink.written c.args.out.now)
     (places_view c.args.places)
+    no_wish
     c.args.report.now
     c.in-Err.status
-    (c.in-Err.ensures.stopped false)
+    (c.in-Err.ensures.stopped no_wish)
     (search rules)
     (search rules)
 
 pub returns-in-Err-read_report-clause-ended : goal.returns-in-Err-read_report-clause-ended
 returns-in-Err-read_report-clause-ended g c =
-    let stop : IsReportStop (g.S.Shelf.files c.run_engine.new.shelf) c.args.report.now c.in-Ok.engine.grid c.in-Err-read_report.status =
+    let stop : IsReportStop (g.S.Shelf.files c.run_engine.new.shelf) c.args.report.now c.in-Ok.ran.engine.grid c.in-Err-read_report.status =
     subst (λ p. IsReportStop (g.S.Shelf.files c.run_engine.new.shelf) c.args.report.now p c.in-Err-read_report.status) c.grid-grid.ensures c.in-Err-read_report.ensures.stopped in
     report_end
     (places_view c.args.places)
     c.args.report.now
-    c.in-Ok.engine
+    c.in-Ok.ran.engine
+    c.in-Ok.ran.refused
     (g.S.Shelf.left c.run_engine.new.shelf)
     _
     _
@@ -50,31 +52,32 @@ returns-in-Err-read_report-clause-ended g c =
 pub text_of-requires : goal.text_of-requires
 text_of-requires g c =
     subst (λ p. IsVerdictOf p c.in-Ok-verdict_by.verdict) (sym c.grid-grid.ensures)
-    (placed_by c.in-Ok.engine c.in-Ok-read_report.bounds c.in-Ok-verdict_by.verdict c.in-Ok.ensures.engine c.in-Ok-verdict_by.ensures)
+    (placed_by c.in-Ok.ran.engine c.in-Ok-read_report.bounds c.in-Ok-verdict_by.verdict c.in-Ok.ensures.engine c.in-Ok-verdict_by.ensures)
 
 pub returns-in_default-text_of-clause-read_risen : goal.returns-in_default-text_of-clause-read_risen
 returns-in_default-text_of-clause-read_risen g c = λ rose.
-    let first : g.S.Shelf.faults c.args.shelf.now < g.S.Shelf.faults c.run_engine.new.shelf → ⊥ = λ l. no_error c.run_engine.result c.in-Ok.engine ReadFault c.in-Ok.is (c.run_engine.ensures.read_risen l) in
+    let first : g.S.Shelf.faults c.args.shelf.now < g.S.Shelf.faults c.run_engine.new.shelf → ⊥ = λ l. no_error c.run_engine.result c.in-Ok.ran ReadFault c.in-Ok.is (c.run_engine.ensures.read_risen l) in
     let second : g.S.Shelf.faults c.run_engine.new.shelf < g.S.Shelf.faults c.read_report.new.shelf → ⊥ = λ l. no_error c.read_report.result c.in-Ok-read_report.bounds ReadFault c.in-Ok-read_report.is (c.read_report.ensures.read_risen l) in
     absurd (not_risen (g.S.Shelf.faults c.args.shelf.now) (g.S.Shelf.faults c.run_engine.new.shelf) (g.S.Shelf.faults c.read_report.new.shelf) first second rose)
 
 pub returns-in-Ok-put_all-clause-read_risen : goal.returns-in-Ok-put_all-clause-read_risen
 returns-in-Ok-put_all-clause-read_risen g c = λ rose.
-    let first : g.S.Shelf.faults c.args.shelf.now < g.S.Shelf.faults c.run_engine.new.shelf → ⊥ = λ l. no_error c.run_engine.result c.in-Ok.engine ReadFault c.in-Ok.is (c.run_engine.ensures.read_risen l) in
+    let first : g.S.Shelf.faults c.args.shelf.now < g.S.Shelf.faults c.run_engine.new.shelf → ⊥ = λ l. no_error c.run_engine.result c.in-Ok.ran ReadFault c.in-Ok.is (c.run_engine.ensures.read_risen l) in
     let second : g.S.Shelf.faults c.run_engine.new.shelf < g.S.Shelf.faults c.read_report.new.shelf → ⊥ = λ l. no_error c.read_report.result c.in-Ok-read_report.bounds ReadFault c.in-Ok-read_report.is (c.read_report.ensures.read_risen l) in
     absurd (not_risen (g.S.Shelf.faults c.args.shelf.now) (g.S.Shelf.faults c.run_engine.new.shelf) (g.S.Shelf.faults c.read_report.new.shelf) first second rose)
 
 pub returns-in-Ok-put_all-clause-ended : goal.returns-in-Ok-put_all-clause-ended
 returns-in-Ok-put_all-clause-ended g c =
-    let says : DidSayBounds (g.S.Shelf.files c.run_engine.new.shelf) (g.S.Shelf.left c.read_report.new.shelf) c.args.report.now c.in-Ok.engine.grid c.in-Ok-read_report.bounds =
+    let says : DidSayBounds (g.S.Shelf.files c.run_engine.new.shelf) (g.S.Shelf.left c.read_report.new.shelf) c.args.report.now c.in-Ok.ran.engine.grid c.in-Ok-read_report.bounds =
     subst (λ p. DidSayBounds (g.S.Shelf.files c.run_engine.new.shelf) (g.S.Shelf.left c.read_report.new.shelf) c.args.report.now p c.in-Ok-read_report.bounds) c.grid-grid.ensures c.in-Ok-read_report.ensures.bounds in
-    let told : c.in-Ok-text_of.text.items ≡ verdict_text c.in-Ok.engine.grid c.in-Ok-verdict_by.verdict = c.in-Ok-text_of.ensures ∙ ap (λ p. verdict_text p c.in-Ok-verdict_by.verdict) c.grid-grid.ensures in
+    let told : c.in-Ok-text_of.text.items ≡ verdict_text c.in-Ok.ran.engine.grid c.in-Ok-verdict_by.verdict = c.in-Ok-text_of.ensures ∙ ap (λ p. verdict_text p c.in-Ok-verdict_by.verdict) c.grid-grid.ensures in
     let all : Appends (g.K.Sink.written c.args.out.now) (g.K.Sink.written c.put_all.new.out) c.in-Ok-text_of.text.items = search rules in
     let end =
     check_done_end
     (places_view c.args.places)
     c.args.report.now
-    c.in-Ok.engine
+    c.in-Ok.ran.engine
+    c.in-Ok.ran.refused
     (g.S.Shelf.left c.run_engine.new.shelf)
     _
     _
@@ -96,20 +99,21 @@ returns-in-Ok-put_all-clause-ended g c =
 
 pub returns-clause-read_risen : goal.returns-clause-read_risen
 returns-clause-read_risen g c = λ rose.
-    let first : g.S.Shelf.faults c.args.shelf.now < g.S.Shelf.faults c.run_engine.new.shelf → ⊥ = λ l. no_error c.run_engine.result c.in-Ok.engine ReadFault c.in-Ok.is (c.run_engine.ensures.read_risen l) in
+    let first : g.S.Shelf.faults c.args.shelf.now < g.S.Shelf.faults c.run_engine.new.shelf → ⊥ = λ l. no_error c.run_engine.result c.in-Ok.ran ReadFault c.in-Ok.is (c.run_engine.ensures.read_risen l) in
     let second : g.S.Shelf.faults c.run_engine.new.shelf < g.S.Shelf.faults c.read_report.new.shelf → ⊥ = λ l. no_error c.read_report.result c.in-Ok-read_report.bounds ReadFault c.in-Ok-read_report.is (c.read_report.ensures.read_risen l) in
     absurd (not_risen (g.S.Shelf.faults c.args.shelf.now) (g.S.Shelf.faults c.run_engine.new.shelf) (g.S.Shelf.faults c.read_report.new.shelf) first second rose)
 
 pub returns-clause-ended : goal.returns-clause-ended
 returns-clause-ended g c =
-    let says : DidSayBounds (g.S.Shelf.files c.run_engine.new.shelf) (g.S.Shelf.left c.read_report.new.shelf) c.args.report.now c.in-Ok.engine.grid c.in-Ok-read_report.bounds =
+    let says : DidSayBounds (g.S.Shelf.files c.run_engine.new.shelf) (g.S.Shelf.left c.read_report.new.shelf) c.args.report.now c.in-Ok.ran.engine.grid c.in-Ok-read_report.bounds =
     subst (λ p. DidSayBounds (g.S.Shelf.files c.run_engine.new.shelf) (g.S.Shelf.left c.read_report.new.shelf) c.args.report.now p c.in-Ok-read_report.bounds) c.grid-grid.ensures c.in-Ok-read_report.ensures.bounds in
-    let told : c.in-Ok-text_of.text.items ≡ verdict_text c.in-Ok.engine.grid c.in-Ok-verdict_by.verdict = c.in-Ok-text_of.ensures ∙ ap (λ p. verdict_text p c.in-Ok-verdict_by.verdict) c.grid-grid.ensures in
+    let told : c.in-Ok-text_of.text.items ≡ verdict_text c.in-Ok.ran.engine.grid c.in-Ok-verdict_by.verdict = c.in-Ok-text_of.ensures ∙ ap (λ p. verdict_text p c.in-Ok-verdict_by.verdict) c.grid-grid.ensures in
     let part : AppendsPrefix (g.K.Sink.written c.args.out.now) (g.K.Sink.written c.put_all.new.out) c.in-Ok-text_of.text.items = search rules in
     check_part_end
     (places_view c.args.places)
     c.args.report.now
-    c.in-Ok.engine
+    c.in-Ok.ran.engine
+    c.in-Ok.ran.refused
     (g.S.Shelf.left c.run_engine.new.shelf)
     _
     _

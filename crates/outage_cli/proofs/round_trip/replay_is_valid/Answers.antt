@@ -2,7 +2,7 @@ use Rattle.outage_cli.proofs.OwnReport.{found_valid}
 use Rattle.outage_cli.proofs.round_trip.replay_is_valid.Goals as goal
 
 pub returns : goal.returns
-returns c = λ text events g says.
+returns c = λ text events g wish says with_bounds.
     found_valid
     (record {
       run = c.run_is_history.ensures;
@@ -18,3 +18,5 @@ returns c = λ text events g says.
     g
     (c.text_is_sound.ensures text g says)
     events
+    wish
+    with_bounds

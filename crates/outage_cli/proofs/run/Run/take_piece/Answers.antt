@@ -1,5 +1,5 @@
 -- One more byte of a piece.
-use Rattle.std.proofs.Common.{◌≡◌, ◌+◌, [], ◌++◌, take, sym, ap, ◌∙◌, subst, arith, Err}
+use Rattle.std.proofs.Common.{◌≡◌, [], ◌++◌, take, sym, ap, ◌∙◌, subst, arith, Err}
 use Rattle.std.proofs.lemmas.Result.{err_from_is_err_and}
 use Rattle.std.proofs.lemmas.List.{take_all}
 use Rattle.history_rules.specs.Run.{history_in}

@@ -1,0 +1,14 @@
+pub mod AppWords
+pub mod CheckTurns
+pub mod CheckWalk
+pub mod Looks
+pub mod Outcome
+pub mod ReadRows
+pub mod Reading
+pub mod ReplayOptions
+pub mod ReplaySteps
+pub mod ReplayWalk
+pub mod RowsFound
+pub mod Spelled
+pub mod Taking
+pub mod Turns

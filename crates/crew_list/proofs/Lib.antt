@@ -1,0 +1,5 @@
+mod Steps
+mod Looking
+mod Grouping
+mod Sorting
+mod Ranking

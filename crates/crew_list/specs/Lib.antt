@@ -1,0 +1,4 @@
+pub mod Listed
+pub mod Chains
+pub mod Groups
+pub mod Ranks
