@@ -6,4 +6,3 @@ pub mod Agreeing
 pub mod TightTables
 pub mod Added
 pub mod Joined
-pub mod SmallFeeder

@@ -128,6 +128,3 @@ fn verdict(
     }
     costs::verdict(alloc, grid, marks, dark, live, claims, cuts, cost)
 }
-
-#[cfg(test)]
-mod tests;

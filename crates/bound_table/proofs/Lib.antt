@@ -9,4 +9,3 @@ pub mod Commas
 pub mod Lookups
 pub mod PrintedLines
 pub mod Written
-pub mod SmallFeeder

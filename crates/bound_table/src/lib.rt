@@ -15,6 +15,3 @@ pub use laws::{read_is_of_network, written_is_read};
 pub use read::read_bounds;
 pub use words::{ReportWord, text_of};
 pub use write::put_bounds;
-
-#[cfg(test)]
-mod tests;

@@ -7,6 +7,3 @@ mod matched;
 mod words;
 
 pub use words::{Command, Places, Wish, WordsFault, read_words};
-
-#[cfg(test)]
-mod tests;

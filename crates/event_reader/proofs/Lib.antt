@@ -1,3 +1,2 @@
 pub mod ShapesOfWords
-pub mod SmallFeeder
 pub mod Readings

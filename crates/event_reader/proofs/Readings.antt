@@ -1,5 +1,5 @@
 -- What the answers of the reader say of a line.
-use Rattle.std.proofs.Common.{◌≡◌, ◌<◌, ◌≤◌, ℕ, Bool, true, false, cond, List, length, Option, Some, None, Result, Ok, Err, refl, sym, ap, ◌∙◌}
+use Rattle.std.proofs.Common.{◌≡◌, ◌↔◌, ◌<◌, ◌≤◌, ℕ, Bool, true, false, cond, List, length, Option, Some, None, Result, Ok, Err, refl, sym, ap, ◌∙◌}
 use Rattle.std.proofs.lemmas.Bool.{lt-ltb, le-ltb}
 use Rattle.std.proofs.lemmas.Option.{same_Some}
 use Rattle.grid_model.specs.Parts.{Parts}
@@ -10,9 +10,11 @@ use Rattle.event_rules.specs.declared.read_rule.ReadRule.{ReadRule}
 use Rattle.event_rules.specs.declared.read_rule.ReadRule.TheVariants as rule
 use Rattle.event_rules.specs.Lines.{is_skipped}
 use Rattle.event_rules.specs.Fields.{between_commas, has_no_fields}
-use Rattle.event_rules.specs.EventLines.{IsSkipped, IsRefused, event_of_fields, reading_of, event_reading}
+use Rattle.event_rules.specs.EventLines.{IsSkipped, IsEvent, IsRefused, event_of_fields, reading_of, event_reading}
 use Rattle.event_reader.specs.declared.refusal.ReadRefusal.{ReadRefusal}
 use Rattle.event_reader.specs.declared.refusal.ReadRefusal.TheVariants.{TooLong, BadFields, BadWord, BadTime, BadName, UnknownMeter, UnknownDevice, Memory}
+use Rattle.line_text.specs.LineSorts.{IsTooLong, IsBare, IsRow}
+use Rattle.event_reader.specs.Reading.{IsReading}
 use Rattle.event_reader.specs.Refusals.{refusal_by, refusal_without_fields}
 
 -- the rule of a refusal
@@ -91,3 +93,57 @@ same_refusal a b answer is_a is_b = cc
 
 pub same_event : (a b : Event) → ◌≡◌ {A = Result (Option Event) ReadRefusal} (Ok (Some a)) (Ok (Some b)) → a ≡ b
 same_event a b e = cc
+
+-- what is read of a line by its sort
+pub skipped_read : (g : Parts) (line : List ℕ) → is_skipped line ≡ true → IsReading g line (Ok None)
+skipped_read g line h = record { skipped = (λ e. h, λ e. refl); event = λ event e. cc; bound = tt; refused = λ rule e. cc }
+
+not_skipped : (line : List ℕ) (refusal : ReadRefusal) → is_skipped line ≡ false → (◌≡◌ {A = Result (Option Event) ReadRefusal} (Err refusal) (Ok None)) ↔ (is_skipped line ≡ true)
+not_skipped line refusal h = (λ e. cc, λ e. cc)
+
+pub too_long_read : (g : Parts) (line : List ℕ) → IsTooLong line → IsReading g line (Err TooLong)
+too_long_read g line h = record {
+  skipped = not_skipped line TooLong h.not_skipped;
+  event = λ event e. cc;
+  bound = tt;
+  refused = λ rule e. long_refused g line rule h.not_skipped h.long (same_refusal TooLong (refusal_by rule) (Err TooLong) refl e);
+}
+
+pub bare_read : (g : Parts) (line : List ℕ) → IsBare line → IsReading g line (Err BadFields)
+bare_read g line h = record {
+  skipped = not_skipped line BadFields h.not_skipped;
+  event = λ event e. cc;
+  bound = tt;
+  refused = λ rule e.
+      fields_refused g line no_fields.Bad rule h.not_skipped h.short (λ bad. h.bare) (same_refusal BadFields (refusal_by rule) (Err BadFields) refl e);
+}
+
+pub row_refused : (g : Parts) (line : List ℕ) (broken : ReadRule) (refusal : ReadRefusal) (read : Result (Option Event) ReadRefusal) → IsRow line
+    → event_of_fields g (between_commas line) ≡ Err broken → refusal ≡ refusal_by broken → read ≡ Err refusal → IsReading g line read
+row_refused g line broken refusal read h e by is =
+    rw is
+    (record {
+      skipped = not_skipped line refusal h.not_skipped;
+      event = λ event same. cc;
+      bound = tt;
+      refused = λ rule same.
+          event_refused g line broken rule h.not_skipped h.short h.has_fields e (sym by ∙ same_refusal refusal (refusal_by rule) (Err refusal) refl same);
+    })
+
+pub row_event : (g : Parts) (line : List ℕ) (event : Event) → IsRow line → event_of_fields g (between_commas line) ≡ Ok event → event.time.0 ≤ 253402300799
+    → IsReading g line (Ok (Some event))
+row_event g line event h e small = record {
+  skipped = (λ none. cc, λ skipped. let said = h.not_skipped in cc);
+  event = λ other same. fields_read g line (Ok event) h.not_skipped h.short h.has_fields e ∙ ap IsEvent (same_event event other same);
+  bound = small;
+  refused = λ rule same. cc;
+}
+
+-- where memory was wanting, nothing is said of a row
+pub memory_read : (g : Parts) (line : List ℕ) → IsRow line → IsReading g line (Err Memory)
+memory_read g line h = record {
+  skipped = not_skipped line Memory h.not_skipped;
+  event = λ event e. cc;
+  bound = tt;
+  refused = λ rule e. let none = memory_by_none rule (same_refusal Memory (refusal_by rule) (Err Memory) refl e) in cc;
+}

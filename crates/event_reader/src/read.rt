@@ -1,9 +1,12 @@
 //! Reading the lines of an event text.
-ghost use Rattle.std.specs.Prelude.{◌≡◌, ◌↔◌, ◌≤◌, true, None, Some, Ok, Err, IfOk, IfSome};
+ghost use Rattle.std.specs.Prelude.{◌≡◌, ◌↔◌, ◌≤◌, ℕ, List, true, None, Some, Ok, Err, IfOk, IfSome};
 ghost use Rattle.grid_model.specs.declared.history.Event.{Event};
 ghost use Rattle.event_rules.specs.declared.read_rule.ReadRule.{ReadRule};
 ghost use Rattle.event_rules.specs.Lines.{is_skipped};
+ghost use Rattle.event_rules.specs.Fields.{between_commas};
+ghost use Rattle.line_text.specs.LineSorts.{IsRow};
 ghost use Rattle.event_rules.specs.EventLines as lines;
+ghost use Rattle.event_reader.specs.Reading.{IsReading};
 ghost use Rattle.event_reader.specs.Refusals.{refusal_by};
 ghost use Rattle.event_reader.specs.Reports.{shape_view, shape_result};
 
@@ -52,6 +55,13 @@ fn event_of_fields(grid: &Grid, mut fields: RowFields<'_>) -> Result<Event, Read
     event_of_report(grid, time, report)
 }
 
+/// The event of a row, which has these fields.
+pub(crate) fn event_of_row(grid: &Grid, fields: RowFields<'_>) -> Result<Option<Event>, ReadRefusal>
+    ensures { (line : List ℕ) → IsRow line → fields.entry ≡ between_commas line → IsReading grid.now line result }
+{
+    Ok(Some(event_of_fields(grid, fields)?))
+}
+
 /// The event that a line says, none where the line is skipped: one that is empty, or that begins
 /// with `#` and has at most 512 bytes.
 ///
@@ -73,5 +83,5 @@ pub fn read_event(alloc: Global, grid: &Grid, line: &[u8]) -> Result<Option<Even
         return Err(ReadRefusal::TooLong);
     }
     let row = fields(alloc, line)?;
-    Ok(Some(event_of_fields(grid, RowFields::of(&row))?))
+    event_of_row(grid, RowFields::of(&row))
 }

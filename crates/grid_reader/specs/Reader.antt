@@ -19,9 +19,9 @@ pub record IsDraftOfText (text : List ℕ) (draft : Draft) : Type 0 where
   pub held : IsDraftOf rows device_lines draft
   pub reading : with_lines (Rows [] [] 1) (lines text) ≡ Rows rows device_lines next
 
--- the draft holds the lines before this number, and the rest of the text goes on from there
-pub record Continues (text rest : List ℕ) (number : ℕ) (draft : Draft) : Type 0 where
+-- the draft holds the lines before this number, and the text goes on with those that are left
+pub record Continues (text : List ℕ) (left : List (List ℕ)) (number : ℕ) (draft : Draft) : Type 0 where
   pub rows : List Row
   pub device_lines : List ℕ
   pub held : IsDraftOf rows device_lines draft
-  pub reading : with_lines (Rows rows device_lines number) (lines rest) ≡ with_lines (Rows [] [] 1) (lines text)
+  pub reading : with_lines (Rows rows device_lines number) left ≡ with_lines (Rows [] [] 1) (lines text)

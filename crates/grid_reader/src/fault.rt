@@ -1,5 +1,4 @@
 //! Why a network text is refused.
-use line_text::FieldsFault;
 use std::alloc::{AllocError, AllocFailed};
 use thiserror::Error;
 
@@ -126,19 +125,5 @@ impl From<GridRule> for RowFault {
 
     fn from(rule: GridRule) -> RowFault {
         RowFault::Breaks(rule)
-    }
-}
-
-impl From<FieldsFault> for RowFault {
-    ghost use Rattle.std.specs.Prelude.{◌≡◌};
-    ghost use Rattle.grid_reader.specs.RowFaults.{fault_of_fields};
-
-    ghost from_gives = { λ fields fault. fault ≡ fault_of_fields fields };
-
-    fn from(fault: FieldsFault) -> RowFault {
-        match fault {
-            FieldsFault::Bad => RowFault::Breaks(GridRule::BadRow),
-            FieldsFault::Memory => RowFault::Memory,
-        }
     }
 }

@@ -19,6 +19,3 @@ pub use read::read_grid;
 pub fn text_is_sound()
     ensures { TextIsSound }
 {}
-
-#[cfg(test)]
-mod tests;

@@ -1,5 +1,5 @@
 //! Reading the rows of a network text, each by itself.
-ghost use Rattle.std.specs.Prelude.{◌≡◌, IfOk, IfErr, Some, Ok, Err, if◌then◌else◌};
+ghost use Rattle.std.specs.Prelude.{◌≡◌, ◌≢◌, ℕ, List, Some, Ok, Err, if◌then◌else◌};
 ghost use Rattle.grid_model.specs.Name.{is_name};
 ghost use Rattle.csv.specs.Records.{fields_of};
 ghost use Rattle.grid_reader.specs.Shapes.{shape_of_fields};
@@ -7,16 +7,16 @@ ghost use Rattle.grid_reader.specs.Rows as rows;
 ghost use Rattle.grid_reader.specs.Words as words;
 ghost use Rattle.grid_reader.specs.ShapeView.{shape_view};
 ghost use Rattle.grid_reader.specs.RowResult.{as_result};
-ghost use Rattle.grid_reader.specs.RowFaults.{IfBroken};
+ghost use Rattle.line_text.specs.LineSorts.{IsTold};
+ghost use Rattle.line_text.specs.declared.sorts.LineSort.TheVariants as of_sort;
 
-use crate::fault::{GridRule, RowFault};
+use crate::fault::GridRule;
 use crate::row::{DeviceRow, MeterRow, Row, SettingRow};
 use crate::shapes::{Shape, shape_of};
 use crate::words::{kind_named, read_amount, setting_named, value_of, weight_of};
 use csv::ByteRecord;
 use grid_model::Name;
-use line_text::{MOST_LINE, fields};
-use std::alloc::Global;
+use line_text::LineSort;
 
 fn read_name(text: &[u8]) -> Result<Name, GridRule>
     ensures { result ≡ (if is_name text.now then Ok text.now else Err GridRule.BadName) }
@@ -108,14 +108,14 @@ fn row_of_fields(fields: &ByteRecord) -> Result<Row, GridRule>
     }
 }
 
-/// The row of a line, or the first rule that it breaks whatever rows stand before it.
-pub(crate) fn read_row(alloc: Global, line: &[u8]) -> Result<Row, RowFault>
-    ensures row { IfOk result (λ row. rows.row_of line.now ≡ rows.IsRow row) }
-    ensures broken { IfErr result (λ fault. IfBroken fault (λ rule. rows.row_of line.now ≡ rows.Breaks rule)) }
+/// The row of a line that isn't skipped, of which this is told, or the first rule that it breaks
+/// whatever rows stand before it.
+pub(crate) fn row_of_line(sort: LineSort, fields: &ByteRecord) -> Result<Row, GridRule>
+    requires { sort ≢ of_sort.Skipped }
+    ensures { (line : List ℕ) → IsTold sort (fields_of fields.now) line → result ≡ as_result (rows.row_of line) }
 {
-    if line.len() > MOST_LINE {
-        return Err(RowFault::Breaks(GridRule::BadRow));
+    match sort {
+        LineSort::Row => row_of_fields(fields),
+        _ => Err(GridRule::BadRow),
     }
-    let fields = fields(alloc, line)?;
-    Ok(row_of_fields(&fields)?)
 }

@@ -16,9 +16,6 @@ pub use grid_model::Period;
 use grid_model::{Grid, Line, Stamp};
 use line_text::Fraction;
 
-#[cfg(test)]
-mod tests;
-
 /// The three indices of a period. An index has no value where its divisor is 0.
 #[derive(Clone, Copy, Debug, PartialEq, Eq)]
 pub struct Indices {

@@ -4,7 +4,9 @@ pub mod CutLines
 pub mod FieldParts
 pub mod RecordParts
 pub mod RowParts
-pub mod ShownLines
+pub mod LinesKept
+pub mod RecordsKept
+pub mod PieceLines
 pub mod DecimalValues
 pub mod DecimalSteps
 pub mod DecimalTexts

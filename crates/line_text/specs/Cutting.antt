@@ -24,6 +24,16 @@ unfoldable pub lines_from : List ℕ → List ℕ → List (List ℕ)
 lines_from part [] = last_line part
 lines_from part (b ∷ rest) = line_ended part b ++ lines_from (part_with part b) rest
 
+-- the lines that end in more bytes, behind a part at hand
+unfoldable pub ended_from : List ℕ → List ℕ → List (List ℕ)
+ended_from part [] = []
+ended_from part (b ∷ rest) = line_ended part b ++ ended_from (part_with part b) rest
+
+-- the part at hand behind more bytes
+unfoldable pub part_from : List ℕ → List ℕ → List ℕ
+part_from part [] = part
+part_from part (b ∷ rest) = part_from (part_with part b) rest
+
 -- what a cutter has: the part at hand, or none where it is too long to be held, the last answer, and the last line
 pub record Cutting : Type 0 where
   pub part : Option (List ℕ)

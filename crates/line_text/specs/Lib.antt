@@ -1,6 +1,9 @@
 pub mod FieldsLeft
 pub mod LineEnds
 pub mod Cutting
+pub mod LineSorts
+pub mod Blocks
+pub mod BlockReading
 pub mod Laws
 pub mod Dates
 pub mod StampText

@@ -1,5 +1,5 @@
 //! Lines cut off a text byte by byte.
-ghost use Rattle.std.specs.Prelude.{◌≡◌, ◌<◌, ◌≤◌, ℕ, List, [], take, length, nat_le, Some, IfSome, IfNone, if◌then◌else◌};
+ghost use Rattle.std.specs.Prelude.{◌≡◌, ◌<◌, ◌≤◌, ◌++◌, ℕ, List, [], take, length, nat_le, Some, IfSome, IfNone, if◌then◌else◌};
 ghost use Rattle.event_rules.specs.Lines.{most_line};
 ghost use Rattle.line_text.specs.LineEnds.{without_cr};
 
@@ -104,6 +104,18 @@ impl LineCutter {
         self.part = (self.part + 1).min(MOST_HELD + 1);
         self.last = Cut::More;
         Cut::More
+    }
+
+    /// Takes the next bytes of the text, none of which is an LF: no line ends at them.
+    pub fn extend(&mut self, bytes: &[u8])
+        ensures part { (part : List ℕ) → IsAtPart self.old part → IsAtPart self.new (part ++ bytes.now) }
+        ensures last { self.new.last ≡ Cut.More }
+    {
+        let start = self.part.min(MOST_HELD);
+        let count = bytes.len().min(MOST_HELD - start);
+        self.bytes[start..start + count].copy_from_slice(&bytes[..count]);
+        self.part = self.part.saturating_add(bytes.len()).min(MOST_HELD + 1);
+        self.last = Cut::More;
     }
 
     /// Ends the text, and tells which line ends with it: the bytes behind the last LF, where there

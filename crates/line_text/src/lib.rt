@@ -1,6 +1,8 @@
 //! Lines, fields, decimals and times of a text.
 #![tactic(auto)]
 
+mod block;
+mod block_reader;
 mod commas;
 mod cuts;
 mod cutter;
@@ -8,10 +10,14 @@ mod decimals;
 mod fractions;
 mod laws;
 mod lines;
+mod pieces;
 mod row_fields;
 mod rows;
+mod sorts;
 mod stamps;
 
+pub use block::LineBlock;
+pub use block_reader::BlockReader;
 pub use commas::Fields;
 pub use cuts::cut_at;
 pub use cutter::{Cut, LineCutter};
@@ -23,7 +29,5 @@ pub use laws::{
 pub use lines::{MOST_LINE, is_skipped_line, next_line};
 pub use row_fields::RowFields;
 pub use rows::{FieldsFault, fields};
+pub use sorts::LineSort;
 pub use stamps::{put_stamp, read_stamp};
-
-#[cfg(test)]
-mod tests;

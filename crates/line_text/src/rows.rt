@@ -33,7 +33,9 @@ fn begins_with_byte_order_mark(line: &[u8]) -> bool
     line.starts_with(&[0xEF, 0xBB, 0xBF])
 }
 
-fn is_bad(line: &[u8]) -> bool
+/// Whether a line has no fields: it is empty, begins with a byte order mark, or holds a double quote,
+/// a CR or an LF.
+pub(crate) fn is_bare_line(line: &[u8]) -> bool
     ensures { result ≡ has_no_fields line.now }
 {
     line.is_empty() || begins_with_byte_order_mark(line) || holds_barred_byte(line)
@@ -60,7 +62,7 @@ pub fn fields(alloc: Global, line: &[u8]) -> Result<ByteRecord, FieldsFault>
     ensures bad { IsErrOf result FieldsFault.Bad ↔ (has_no_fields line.now ≡ true) }
     ensures value { IfOk result (λ row. fields_of row ≡ between_commas line.now) }
 {
-    if is_bad(line) {
+    if is_bare_line(line) {
         return Err(FieldsFault::Bad);
     }
     match first_record(alloc, line) {

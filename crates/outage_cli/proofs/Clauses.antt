@@ -6,11 +6,11 @@ use Rattle.bound_table.specs.declared.bounds.BoundRule.{BoundRule}
 use Rattle.bound_checker.specs.declared.rules.CheckRule.{CheckRule}
 use Rattle.outage_ports.specs.Bytes.{Files}
 use Rattle.command_words.specs.Forms.{Command}
-use Rattle.outage_cli.specs.Run.{IsDone, IsInvalid, IsRefused, IsReportRefused, IsLimit, IsLeft, IsCut, IsPart, IsPartAtMost}
-use Rattle.outage_cli.specs.Ended.{EndsAs, IsEnd}
-use Rattle.outage_cli.specs.declared.status.Status.{Status}
-use Rattle.outage_cli.specs.declared.status.Status.TheVariants.{Done, Invalid, Usage, ReadFault, WriteFault, NetworkRefused, ReportRefused, Limit, Memory}
-use Rattle.outage_cli.specs.declared.status.Which.{Which}
+use Rattle.run_rules.specs.Run.{IsDone, IsInvalid, IsRefused, IsReportRefused, IsLimit, IsLeft, IsCut, IsPart, IsPartAtMost}
+use Rattle.engine_run.specs.Ended.{EndsAs, IsEnd}
+use Rattle.run_rules.specs.declared.status.Status.{Status}
+use Rattle.run_rules.specs.declared.status.Status.TheVariants.{Done, Invalid, Usage, ReadFault, WriteFault, NetworkRefused, ReportRefused, Limit, Memory}
+use Rattle.run_rules.specs.declared.status.Which.{Which}
 
 module _ (left before now : Option (List ℕ)) (status : Status) where
   -- words of no form are answered so, or memory ran out
@@ -70,3 +70,7 @@ pub unread_end : (files : Option Files) (left out : Option (List ℕ)) (command 
 unread_end None left out command = tt
 unread_end (Some files) left out None = (refl, inr refl)
 unread_end (Some files) left out (Some command) = inl refl
+
+-- words that ask for something are of a form
+pub none_asked : (command : Option Command) (asked : Command) → command ≡ Some asked → command ≡ None → ⊥
+none_asked command asked some none = cc

@@ -14,15 +14,15 @@ use Rattle.bound_checker.specs.declared.rules.Verdict.{Verdict}
 use Rattle.bound_checker.specs.declared.rules.Verdict.TheVariants as verdict
 use Rattle.outage_ports.specs.Bytes.{Files}
 use Rattle.command_words.specs.Forms.{Places, Command, Replay, Check}
-use Rattle.outage_cli.specs.Files.{most_network, most_events, most_report, IsTooLong, IsWithin, SaysNetwork, RefusesNetworkAt, HasEvents, HasTooManyLines, HasTooManyBytes, SaysBounds, RefusesReportAt}
-use Rattle.outage_cli.specs.Told.{verdict_on}
-use Rattle.outage_cli.specs.Run.{CanReplay, CanCheck, places_in, RefusesReport, IsOver, IsDue, status_of, Completes, IsComplete}
-use Rattle.outage_cli.specs.Ended.{EndsAs, IsEnd}
-use Rattle.outage_cli.specs.declared.status.Status.{Status}
-use Rattle.outage_cli.specs.declared.status.Status.TheVariants.{Done, Invalid, Usage, ReadFault, WriteFault, NetworkRefused, ReportRefused, Limit, Memory}
-use Rattle.outage_cli.specs.declared.status.Which.{Which}
+use Rattle.run_rules.specs.Files.{most_network, most_events, most_report, IsTooLong, IsWithin, SaysNetwork, RefusesNetworkAt, HasEvents, HasTooManyLines, HasTooManyBytes, SaysBounds, RefusesReportAt}
+use Rattle.run_rules.specs.Told.{verdict_on}
+use Rattle.run_rules.specs.Run.{CanReplay, CanCheck, places_in, RefusesReport, IsOver, IsDue, status_of, Completes, IsComplete}
+use Rattle.engine_run.specs.Ended.{EndsAs, IsEnd}
+use Rattle.run_rules.specs.declared.status.Status.{Status}
+use Rattle.run_rules.specs.declared.status.Status.TheVariants.{Done, Invalid, Usage, ReadFault, WriteFault, NetworkRefused, ReportRefused, Limit, Memory}
+use Rattle.run_rules.specs.declared.status.Which.{Which}
 use Rattle.command_words.specs.declared.words.Wish.{Wish}
-use Rattle.outage_cli.specs.declared.status.Which.TheVariants.{NetworkBytes, EventLines, EventBytes, ReportBytes}
+use Rattle.run_rules.specs.declared.status.Which.TheVariants.{NetworkBytes, EventLines, EventBytes, ReportBytes}
 
 -- a file has one text
 one_text : (a b : List ℕ) (o : Option (List ℕ)) → o ≡ Some a → o ≡ Some b → a ≡ b

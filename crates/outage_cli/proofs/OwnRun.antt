@@ -4,11 +4,12 @@ use Rattle.bound_table.specs.Tight.{tight_bounds}
 use Rattle.bound_checker.specs.declared.rules.Verdict.TheVariants.{Valid}
 use Rattle.outage_ports.specs.Bytes.{Files}
 use Rattle.command_words.specs.Forms.{Places, Command, Replay, Check}
-use Rattle.outage_cli.specs.Told.{last_problem}
-use Rattle.outage_cli.specs.Run.{CanCheck, IsDone, IsComplete}
-use Rattle.outage_cli.specs.RoundTrip.{ReplayIsValid, HasOwnReport, IsOwnConfirmed}
-use Rattle.outage_cli.specs.declared.status.Status.{Status}
-use Rattle.outage_cli.specs.declared.status.Status.TheVariants.{Done}
+use Rattle.run_rules.specs.Told.{last_problem}
+use Rattle.run_rules.specs.Run.{CanCheck, IsDone, IsComplete}
+use Rattle.replay_laws.specs.RoundTrip.{ReplayIsValid}
+use Rattle.outage_cli.specs.Confirmed.{HasOwnReport, IsOwnConfirmed}
+use Rattle.run_rules.specs.declared.status.Status.{Status}
+use Rattle.run_rules.specs.declared.status.Status.TheVariants.{Done}
 
 -- such a report can be checked, and its bounds are valid
 own_check : (files : Files) (places : Places) (report : List ℕ) → ReplayIsValid → HasOwnReport files places report → CanCheck files places report Valid

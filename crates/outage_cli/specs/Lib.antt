@@ -1,9 +1,1 @@
-pub mod Whole
-pub mod Number
-pub mod Files
-pub mod Told
-pub mod Reading
-pub mod Run
-pub mod RoundTrip
-pub mod Pieces
-pub mod Ended
+pub mod Confirmed

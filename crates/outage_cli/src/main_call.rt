@@ -4,20 +4,20 @@ ghost use Rattle.outage_ports.specs.Causes.{Rose};
 ghost use Rattle.bound_table.specs.declared.bounds.BoundRule.{BoundRule};
 ghost use Rattle.bound_checker.specs.declared.rules.CheckRule.{CheckRule};
 ghost use Rattle.grid_reader.specs.declared.fault.GridRule.{GridRule};
-ghost use Rattle.outage_cli.specs.declared.status.Which.{Which};
+ghost use Rattle.run_rules.specs.declared.status.Which.{Which};
 ghost use Rattle.history_rules.specs.RunLaws.{LinesFollowRules};
 ghost use Rattle.history_rules.specs.Shown.{DiagnosisIsPrinted};
 ghost use Rattle.command_words.specs.Forms.{command_of, Allows};
-ghost use Rattle.outage_cli.specs.Run.{IsSilent, IsDone, IsInvalid, IsRefused, IsReportRefused, IsLimit, IsLeft, IsCut, IsPart, IsPartAtMost, IsComplete, IsDue};
-ghost use Rattle.outage_cli.specs.RoundTrip.{IsOwnConfirmed};
+ghost use Rattle.run_rules.specs.Run.{IsSilent, IsDone, IsInvalid, IsRefused, IsReportRefused, IsLimit, IsLeft, IsCut, IsPart, IsPartAtMost, IsComplete, IsDue};
+ghost use Rattle.outage_cli.specs.Confirmed.{IsOwnConfirmed};
 
-use crate::Status;
-use crate::check_run::run_check;
-use crate::replay_run::run_replay;
-use crate::round_trip::replay_is_valid;
+use check_run::run_check;
 use command_words::{Command, WordsFault, read_words};
 use history_rules::{diagnosis_is_printed, lines_follow_rules};
 use outage_ports::{Shelf, Sink};
+use replay_laws::replay_is_valid;
+use replay_run::run_replay;
+use run_rules::Status;
 use std::alloc::Global;
 
 /// Does all that the program does: `replay NET EVENTS` reads the network whole and the events in
@@ -27,7 +27,6 @@ use std::alloc::Global;
 ///
 /// The words are the program's name, which isn't read, and the command's. What is said of the
 /// bytes holds where the shelf, or the sink, tells them.
-#[tactic(auto, using(crate::proofs::Clauses::end_done, crate::proofs::Clauses::end_invalid, crate::proofs::Clauses::end_refused, crate::proofs::Clauses::end_report, crate::proofs::Clauses::end_limit, crate::proofs::Clauses::end_cut, crate::proofs::Clauses::end_left, crate::proofs::Clauses::end_part, crate::proofs::Clauses::end_memory))]
 pub fn outage_main<S: Shelf, K: Sink>(
     alloc: Global,
     words: &[String],

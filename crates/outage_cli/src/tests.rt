@@ -52,6 +52,38 @@ fn shelf(
     Ok(MemoryShelf::new(files, mishaps, piece))
 }
 
+// The status of the top call over files and an output in memory.
+fn call_main(
+    alloc: Global,
+    words: &[String],
+    files: &mut MemoryShelf,
+    out: &mut MemorySink,
+) -> Status {
+    outage_main(alloc, words, files, out)
+}
+
+// Compares what a run of these words answers and writes. The calls of the sink that are named fail, and
+// it takes so many bytes at most.
+fn expect_run(
+    rt: &impl Abort,
+    alloc: Global,
+    mut files: MemoryShelf,
+    failing: Vec<u64>,
+    piece: usize,
+    texts: &[&str],
+    want: Status,
+    written: &str,
+) -> Result<(), AllocError>
+    requires { 1 ≤ piece }
+{
+    let mut out = MemorySink::new(alloc, failing, piece, 1000)?;
+    let given = words(alloc, texts)?;
+    let status = call_main(alloc, &given, &mut files, &mut out);
+    assert_eq!(rt; status, want);
+    assert_eq!(rt; out.bytes(), written.as_bytes());
+    Ok(())
+}
+
 // Compares what a replay of a network and events writes, where the shelf gives so many bytes at most.
 pub(crate) fn run_by_pieces(
     rt: &impl Abort,
@@ -63,13 +95,18 @@ pub(crate) fn run_by_pieces(
 ) -> Result<(), AllocError>
     requires { 1 ≤ piece }
 {
-    let mut files = shelf(alloc, net, events, Vec::new(alloc), piece)?;
-    let mut out = MemorySink::new(alloc, Vec::new(alloc), 7, 1000)?;
-    let given = words(alloc, &["outage", "replay", "n", "e"])?;
-    let status = outage_main(alloc, &given, &mut files, &mut out);
-    assert!(rt; status == Status::Done);
-    assert_eq!(rt; out.bytes(), written.as_bytes());
-    Ok(())
+    let files = shelf(alloc, net, events, Vec::new(alloc), piece)?;
+    let given = ["outage", "replay", "n", "e"];
+    expect_run(
+        rt,
+        alloc,
+        files,
+        Vec::new(alloc),
+        7,
+        &given,
+        Status::Done,
+        written,
+    )
 }
 
 // Compares what a replay of a network and events by these words writes.
@@ -81,13 +118,17 @@ pub(crate) fn run_words(
     given: &[&str],
     written: &str,
 ) -> Result<(), AllocError> {
-    let mut files = shelf(alloc, net, events.as_bytes(), Vec::new(alloc), 5)?;
-    let mut out = MemorySink::new(alloc, Vec::new(alloc), 7, 1000)?;
-    let given = words(alloc, given)?;
-    let status = outage_main(alloc, &given, &mut files, &mut out);
-    assert!(rt; status == Status::Done);
-    assert_eq!(rt; out.bytes(), written.as_bytes());
-    Ok(())
+    let files = shelf(alloc, net, events.as_bytes(), Vec::new(alloc), 5)?;
+    expect_run(
+        rt,
+        alloc,
+        files,
+        Vec::new(alloc),
+        7,
+        given,
+        Status::Done,
+        written,
+    )
 }
 
 pub(crate) fn run_cases(rt: &impl Abort, alloc: Global, cases: &[Case]) -> Result<(), AllocError> {
@@ -148,13 +189,9 @@ fn run_failing(
     want: Status,
     written: &str,
 ) -> Result<(), AllocError> {
-    let mut files = shelf(alloc, net, CALLS.as_bytes(), mishaps, 1)?;
-    let mut out = MemorySink::new(alloc, failing, 1, 1000)?;
-    let given = words(alloc, &["outage", "replay", "n", "e"])?;
-    let status = outage_main(alloc, &given, &mut files, &mut out);
-    assert!(rt; status == want);
-    assert_eq!(rt; out.bytes(), written.as_bytes());
-    Ok(())
+    let files = shelf(alloc, net, CALLS.as_bytes(), mishaps, 1)?;
+    let given = ["outage", "replay", "n", "e"];
+    expect_run(rt, alloc, files, failing, 1, &given, want, written)
 }
 
 #[test]
@@ -218,13 +255,8 @@ fn run_idle(
     texts: &[&str],
     want: Status,
 ) -> Result<(), AllocError> {
-    let mut files = shelf(alloc, NET, CALLS.as_bytes(), Vec::new(alloc), 5)?;
-    let mut out = MemorySink::new(alloc, Vec::new(alloc), 7, 1000)?;
-    let given = words(alloc, texts)?;
-    let status = outage_main(alloc, &given, &mut files, &mut out);
-    assert_eq!(rt; status, want);
-    assert_eq!(rt; out.bytes(), b"".as_slice());
-    Ok(())
+    let files = shelf(alloc, NET, CALLS.as_bytes(), Vec::new(alloc), 5)?;
+    expect_run(rt, alloc, files, Vec::new(alloc), 7, texts, want, "")
 }
 
 #[test]
@@ -309,13 +341,9 @@ pub(crate) fn check_report(
     files.push(file(alloc, "n", net.as_bytes())?)?;
     files.push(file(alloc, "e", events.as_bytes())?)?;
     files.push(file(alloc, "r", report.as_bytes())?)?;
-    let mut given_files = MemoryShelf::new(files, Vec::new(alloc), 5);
-    let mut out = MemorySink::new(alloc, Vec::new(alloc), 7, 1000)?;
-    let given = words(alloc, &["outage", "check", "n", "e", "r"])?;
-    let status = outage_main(alloc, &given, &mut given_files, &mut out);
-    assert!(rt; status == want);
-    assert!(rt; out.bytes() == written.as_bytes());
-    Ok(())
+    let files = MemoryShelf::new(files, Vec::new(alloc), 5);
+    let given = ["outage", "check", "n", "e", "r"];
+    expect_run(rt, alloc, files, Vec::new(alloc), 7, &given, want, written)
 }
 
 // The same of the worked run's report with another bounds part.

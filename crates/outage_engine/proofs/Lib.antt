@@ -4,4 +4,3 @@ pub mod BoundingRange
 pub mod AfterEvents
 pub mod NoEvents
 pub mod Recorded
-pub mod SmallGrid

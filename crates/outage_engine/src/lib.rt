@@ -8,9 +8,6 @@ mod recording;
 
 pub use engine::Engine;
 
-#[cfg(test)]
-mod tests;
-
 /// The least cost before an event and after it.
 #[derive(Clone, Copy, Debug, PartialEq, Eq)]
 pub struct Applied {

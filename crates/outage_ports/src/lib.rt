@@ -17,6 +17,3 @@ pub use sink::{Sink, put_all};
 /// A call to the outside failed.
 #[derive(Clone, Copy, Debug, PartialEq, Eq)]
 pub struct Failed;
-
-#[cfg(test)]
-mod tests;

@@ -5,4 +5,3 @@ pub mod OfNetwork
 pub mod Told
 pub mod CrewRows
 pub mod IndexRows
-pub mod SmallGrid

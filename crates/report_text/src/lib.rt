@@ -9,6 +9,3 @@ mod sections;
 
 pub use entries::{LineRule, put_changes, put_refused};
 pub use put::{PutFault, put_bounds_part, put_report, put_summary};
-
-#[cfg(test)]
-mod tests;

@@ -5,8 +5,6 @@ ghost use Rattle.word_tables.specs.Laws.{WordIsAtPlace, PlaceHasWord};
 
 mod macros;
 mod table;
-#[cfg(test)]
-mod tests;
 mod words;
 
 pub use table::WordTable;

@@ -1,11 +1,11 @@
 -- What was read of the fields is what the line says.
-use Rattle.std.proofs.Common.{◌≡◌, ◌∙◌, false, Ok, Err, refl, sym, ap, arith}
+use Rattle.std.proofs.Common.{◌≡◌, ◌∙◌, false, Err, refl, sym, ap, arith}
 use Rattle.std.proofs.lemmas.Bool.{false_from_ne_true}
 use Rattle.std.proofs.lemmas.Result.{err_from_is_err_and}
 use Rattle.event_rules.specs.Fields.{has_no_fields}
-use Rattle.event_rules.specs.EventLines.{IsEvent, event_of_fields}
+use Rattle.line_text.specs.LineSorts.{IsRow}
 use Rattle.event_reader.specs.Refusals.{refusal_by}
-use Rattle.event_reader.proofs.Readings.{long_refused, fields_refused, event_refused, fields_read, same_refusal, same_event}
+use Rattle.event_reader.proofs.Readings.{long_refused, fields_refused, same_refusal}
 use Rattle.event_reader.proofs.read.read_event.Goals as goal
 
 pub returns-then-line-gt-MOST_LINE-clause-refused : goal.returns-then-line-gt-MOST_LINE-clause-refused
@@ -18,17 +18,9 @@ returns-in_err-row-clause-refused c = λ rule e.
     fields_refused c.args.grid.now c.args.line.now c.in_err-row.field-0.0 rule (sym c.is_skipped_line.ensures ∙ c.if-is_skipped_line.false) (omega arith)
     (λ bad. c.in_err-row.ensures.bad.0 (ap Err bad)) (sym p.2 ∙ same_refusal p.0 (refusal_by rule) c.from_residual.result p.1 e)
 
-pub returns-in_err-event_of_fields-clause-refused : goal.returns-in_err-event_of_fields-clause-refused
-returns-in_err-event_of_fields-clause-refused c = λ rule e.
-    let p = err_from_is_err_and c.from_residual-in_err-event_of_fields.result c.from_residual-in_err-event_of_fields.ensures.1 in
+pub returns : goal.returns
+returns c =
     let bare : has_no_fields c.args.line.now ≡ false = false_from_ne_true _ (λ t. let bad = c.in_ok-row.ensures.bad.1 t in cc) in
-    event_refused c.args.grid.now c.args.line.now c.in_err-event_of_fields.field-0.0 rule (sym c.is_skipped_line.ensures ∙ c.if-is_skipped_line.false) (omega arith) bare
-    (ap (event_of_fields c.args.grid.now) (sym c.in_ok-row.ensures.value ∙ sym c.of.ensures) ∙ sym c.in_err-event_of_fields.ensures.event)
-    (sym p.2 ∙ same_refusal p.0 (refusal_by rule) c.from_residual-in_err-event_of_fields.result p.1 e)
-
-pub returns-clause-event : goal.returns-clause-event
-returns-clause-event c = λ event e.
-    let bare : has_no_fields c.args.line.now ≡ false = false_from_ne_true _ (λ t. let bad = c.in_ok-row.ensures.bad.1 t in cc) in
-    fields_read c.args.grid.now c.args.line.now (Ok c.in_ok-event_of_fields.field-0) (sym c.is_skipped_line.ensures ∙ c.if-is_skipped_line.false) (omega arith) bare
-    (ap (event_of_fields c.args.grid.now) (sym c.in_ok-row.ensures.value ∙ sym c.of.ensures) ∙ sym c.in_ok-event_of_fields.ensures.event)
-    ∙ ap IsEvent (same_event _ event e)
+    let row : IsRow c.args.line.now = record { not_skipped = sym c.is_skipped_line.ensures ∙ c.if-is_skipped_line.false; short = omega arith; has_fields = bare } in
+    let read = c.event_of_row.ensures c.args.line.now row (c.of.ensures ∙ c.in_ok-row.ensures.value) in
+    record { skipped = read.skipped; event = read.event; bound = read.bound; refused = read.refused }

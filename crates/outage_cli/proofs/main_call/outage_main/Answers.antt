@@ -1,36 +1,92 @@
--- A run that ends so is complete, answers what is owed, and confirms its own report.
-use Rattle.std.proofs.Common.{rules}
-use Rattle.std.specs.Prelude.{map, string_bytes}
-use Rattle.command_words.specs.Forms.{command_of}
-use Rattle.outage_cli.specs.Ended.{IsEnd}
+-- A run that ends so does what its status says.
+use Rattle.std.proofs.Common.{◌≡◌, Some, sym, ap, ◌∙◌, subst}
+use Rattle.std.specs.Prelude.{map, string_bytes, Option}
+use Rattle.command_words.specs.Forms.{Command, Replay, Check, command_of}
+use Rattle.command_words.specs.Seen.{places_view, command_view}
+use Rattle.command_words.specs.declared.words.Command as words
+use Rattle.run_rules.specs.Run.{IsSilent}
+use Rattle.engine_run.specs.Ended.{IsEnd}
 use Rattle.outage_cli.proofs.Owed.{end_complete, end_due}
-use Rattle.outage_cli.proofs.Clauses.{end_done}
+use Rattle.outage_cli.proofs.Clauses.{end_done, end_invalid, end_refused, end_report, end_limit, end_cut, end_left, end_part, end_memory, none_asked}
 use Rattle.outage_cli.proofs.OwnRun.{own_confirmed}
 use Rattle.outage_cli.proofs.main_call.outage_main.Goals as goal
 
-pub returns-in-Ok-Replay-clause-complete : goal.returns-in-Ok-Replay-clause-complete
-returns-in-Ok-Replay-clause-complete g c = λ reads writes.
-    let end : IsEnd (g.S.Shelf.files c.args.shelf.now) (g.S.Shelf.left c.run_replay.new.shelf) (g.K.Sink.written c.args.out.now) (g.K.Sink.written c.run_replay.new.out) (command_of (map string_bytes c.args.words.now)) c.run_replay.result = search rules in
-    end_complete _ _ _ _ _ _ end (λ e. reads (c.run_replay.ensures.read e)) (λ e. writes (c.run_replay.ensures.write e))
+pub returns-in-Ok-Replay : goal.returns-in-Ok-Replay
+returns-in-Ok-Replay g c =
+    let files = g.S.Shelf.files c.args.shelf.now in
+    let before = g.K.Sink.written c.args.out.now in
+    let now = g.K.Sink.written c.run_replay.new.out in
+    let left = g.S.Shelf.left c.run_replay.new.shelf in
+    let status = c.run_replay.result in
+    let command = command_of (map string_bytes c.args.words.now) in
+    let is : command ≡ Some (Replay (places_view c.in-Ok-Replay.places) c.in-Ok-Replay.wish) = c.in-Ok-Replay.ensures.command ∙ ap (λ (x : words.Command). Some (command_view x)) c.in-Ok-Replay.field-0-is in
+    let end : IsEnd files left before now command status = subst (λ (k : Option Command). IsEnd files left before now k status) (sym is) c.run_replay.ensures.ended in
+    record {
+      usage = λ e. absurd (c.run_replay.ensures.no_usage e);
+      no_form = λ none. absurd (none_asked command _ is none);
+      untouched = λ none. absurd (none_asked command _ is none);
+      shelf_later = c.run_replay.ensures.shelf.later;
+      read = c.run_replay.ensures.shelf.rose;
+      read_risen = c.run_replay.ensures.shelf.told;
+      out_later = c.run_replay.ensures.out.later;
+      write = c.run_replay.ensures.out.rose;
+      write_risen = c.run_replay.ensures.out.told;
+      done = end_done left before now status files command end;
+      invalid = λ rule. end_invalid left before now status files command rule end;
+      refused = λ line rule. end_refused left before now status files command line rule end;
+      report = λ line rule. end_report left before now status files command line rule end;
+      limit = λ which. end_limit left before now status files command which end;
+      idle = λ silent. c.run_replay.ensures.idle (subst (λ (k : Option Command). IsSilent k status) is silent);
+      left = end_left left before now status files command end;
+      cut = λ which. end_cut left before now status files command which end;
+      part = end_part left before now status files command end;
+      memory = end_memory left before now status files command end;
+      complete = λ reads writes. end_complete files left before now command status end (λ e. reads (c.run_replay.ensures.shelf.rose e)) (λ e. writes (c.run_replay.ensures.out.rose e));
+      due = λ reads. end_due files left before now command status end (λ e. reads (c.run_replay.ensures.shelf.rose e));
+      own_report = λ reads writes.
+          own_confirmed files left before now command status c.replay_is_valid.ensures
+          (end_complete files left before now command status end (λ e. reads (c.run_replay.ensures.shelf.rose e)) (λ e. writes (c.run_replay.ensures.out.rose e)))
+          (λ e. end_done left before now status files command end e);
+      rules = c.lines_follow_rules.ensures;
+      printed = c.diagnosis_is_printed.ensures;
+    }
 
-pub returns-in-Ok-Replay-clause-due : goal.returns-in-Ok-Replay-clause-due
-returns-in-Ok-Replay-clause-due g c = λ reads.
-    let end : IsEnd (g.S.Shelf.files c.args.shelf.now) (g.S.Shelf.left c.run_replay.new.shelf) (g.K.Sink.written c.args.out.now) (g.K.Sink.written c.run_replay.new.out) (command_of (map string_bytes c.args.words.now)) c.run_replay.result = search rules in
-    end_due _ _ _ _ _ _ end (λ e. reads (c.run_replay.ensures.read e))
-
-pub returns-in-Ok-Check-clause-complete : goal.returns-in-Ok-Check-clause-complete
-returns-in-Ok-Check-clause-complete g c = λ reads writes.
-    let end : IsEnd (g.S.Shelf.files c.args.shelf.now) (g.S.Shelf.left c.run_check.new.shelf) (g.K.Sink.written c.args.out.now) (g.K.Sink.written c.run_check.new.out) (command_of (map string_bytes c.args.words.now)) c.run_check.result = search rules in
-    end_complete _ _ _ _ _ _ end (λ e. reads (c.run_check.ensures.read e)) (λ e. writes (c.run_check.ensures.write e))
-
-pub returns-in-Ok-Check-clause-due : goal.returns-in-Ok-Check-clause-due
-returns-in-Ok-Check-clause-due g c = λ reads.
-    let end : IsEnd (g.S.Shelf.files c.args.shelf.now) (g.S.Shelf.left c.run_check.new.shelf) (g.K.Sink.written c.args.out.now) (g.K.Sink.written c.run_check.new.out) (command_of (map string_bytes c.args.words.now)) c.run_check.result = search rules in
-    end_due _ _ _ _ _ _ end (λ e. reads (c.run_check.ensures.read e))
-
-pub returns-in-Ok-Check-clause-own_report : goal.returns-in-Ok-Check-clause-own_report
-returns-in-Ok-Check-clause-own_report g c = λ reads writes.
-    let end : IsEnd (g.S.Shelf.files c.args.shelf.now) (g.S.Shelf.left c.run_check.new.shelf) (g.K.Sink.written c.args.out.now) (g.K.Sink.written c.run_check.new.out) (command_of (map string_bytes c.args.words.now)) c.run_check.result = search rules in
-    own_confirmed _ _ _ _ _ _ c.replay_is_valid.ensures
-    (end_complete _ _ _ _ _ _ end (λ e. reads (c.run_check.ensures.read e)) (λ e. writes (c.run_check.ensures.write e)))
-    (λ e. end_done _ _ _ _ _ _ end e)
+pub returns-in-Ok-Check : goal.returns-in-Ok-Check
+returns-in-Ok-Check g c =
+    let files = g.S.Shelf.files c.args.shelf.now in
+    let before = g.K.Sink.written c.args.out.now in
+    let now = g.K.Sink.written c.run_check.new.out in
+    let left = g.S.Shelf.left c.run_check.new.shelf in
+    let status = c.run_check.result in
+    let command = command_of (map string_bytes c.args.words.now) in
+    let is : command ≡ Some (Check (places_view c.in-Ok-Check.places) c.in-Ok-Check.report.now) = c.in-Ok-Check.ensures.command ∙ ap (λ (x : words.Command). Some (command_view x)) c.in-Ok-Check.field-0-is in
+    let end : IsEnd files left before now command status = subst (λ (k : Option Command). IsEnd files left before now k status) (sym is) c.run_check.ensures.ended in
+    record {
+      usage = λ e. absurd (c.run_check.ensures.no_usage e);
+      no_form = λ none. absurd (none_asked command _ is none);
+      untouched = λ none. absurd (none_asked command _ is none);
+      shelf_later = c.run_check.ensures.shelf.later;
+      read = c.run_check.ensures.shelf.rose;
+      read_risen = c.run_check.ensures.shelf.told;
+      out_later = c.run_check.ensures.out.later;
+      write = c.run_check.ensures.out.rose;
+      write_risen = c.run_check.ensures.out.told;
+      done = end_done left before now status files command end;
+      invalid = λ rule. end_invalid left before now status files command rule end;
+      refused = λ line rule. end_refused left before now status files command line rule end;
+      report = λ line rule. end_report left before now status files command line rule end;
+      limit = λ which. end_limit left before now status files command which end;
+      idle = λ silent. c.run_check.ensures.idle (subst (λ (k : Option Command). IsSilent k status) is silent);
+      left = end_left left before now status files command end;
+      cut = λ which. end_cut left before now status files command which end;
+      part = end_part left before now status files command end;
+      memory = end_memory left before now status files command end;
+      complete = λ reads writes. end_complete files left before now command status end (λ e. reads (c.run_check.ensures.shelf.rose e)) (λ e. writes (c.run_check.ensures.out.rose e));
+      due = λ reads. end_due files left before now command status end (λ e. reads (c.run_check.ensures.shelf.rose e));
+      own_report = λ reads writes.
+          own_confirmed files left before now command status c.replay_is_valid.ensures
+          (end_complete files left before now command status end (λ e. reads (c.run_check.ensures.shelf.rose e)) (λ e. writes (c.run_check.ensures.out.rose e)))
+          (λ e. end_done left before now status files command end e);
+      rules = c.lines_follow_rules.ensures;
+      printed = c.diagnosis_is_printed.ensures;
+    }

@@ -1,0 +1,8 @@
+//! The check of a report over a shelf and a sink.
+#![tactic(auto)]
+
+mod check;
+mod nowhere;
+mod verdicts;
+
+pub use check::run_check;

@@ -1,0 +1,144 @@
+//! The run over the events of a file, which are read in pieces and not kept.
+ghost use Rattle.std.specs.Prelude.{◌≡◌, ◌≤◌, ◌<◌, ℕ, List, [], Option, true, length, IfOk, IfErr, OnOk, IsErrOf};
+ghost use Rattle.grid_model.specs.Parts.{Parts};
+ghost use Rattle.outage_engine.specs.Engined.{IsEngineAfter, IsEngine};
+ghost use Rattle.run_rules.specs.Faults.{TellsFaults};
+ghost use Rattle.event_run.specs.Reading.{DidReadAll, Stops};
+ghost use Rattle.event_run.specs.Reached.{Reached, HasReachedSome, Enters, Leads, IsLess};
+
+use crate::run::Run;
+use crate::taken::LineStop;
+use history_rules::{lines_of_limit, run_of_parts};
+use line_text::lines_from_parts;
+use outage_engine::Engine;
+use outage_ports::{Shelf, Sink, put_all};
+use std::alloc::Global;
+
+/// Why a run over events stopped before their end.
+#[derive(Clone, Copy, Debug, PartialEq, Eq)]
+pub enum EventsStop {
+    /// The shelf failed.
+    ReadFailed,
+    /// The sink failed.
+    WriteFailed,
+    /// There is a line more than may count.
+    TooManyLines,
+    /// There are more bytes than may be read.
+    TooManyBytes,
+    /// Memory ran out.
+    Memory,
+}
+
+/// What comes of one more read.
+pub(crate) enum Progress {
+    /// The entries of the lines that ended were written, and so many more bytes may be read.
+    More { room: usize },
+    /// The events are read to their end, and all entries written.
+    Ended,
+}
+
+const PIECE: usize = 65_536;
+
+/// The greatest number of bytes of the events.
+const MOST_EVENTS: usize = 1_073_741_824;
+
+// Writes the entries that are kept, but for those of a line for which memory ran out.
+fn put_entries<K: Sink>(
+    out: &mut K,
+    run: &mut Run,
+    taken: Result<(), LineStop>,
+) -> Result<(), EventsStop>
+    ensures entered { Enters (K.written out.old) (K.written out.new) run.old run.new taken result }
+    ensures faults { TellsFaults (K.faults out.old) (K.faults out.new) (IsErrOf result EventsStop.WriteFailed) }
+{
+    if taken == Err(LineStop::Memory) {
+        return Err(EventsStop::Memory);
+    }
+    if put_all(out, &run.taken.entries).is_err() {
+        return Err(EventsStop::WriteFailed);
+    }
+    run.taken.entries.clear();
+    match taken {
+        Ok(()) => Ok(()),
+        Err(_) => Err(EventsStop::TooManyLines),
+    }
+}
+
+// Reads one more piece, of which so many bytes may be taken, and writes the entries of the lines that
+// end in it.
+fn read_more<S: Shelf, K: Sink>(
+    alloc: Global,
+    shelf: &mut S,
+    engine: &mut Engine,
+    out: &mut K,
+    run: &mut Run,
+    piece: &mut [u8],
+    room: usize,
+) -> Result<Progress, EventsStop>
+    requires started { S.started shelf.old ≡ true }
+    requires piece { 0 < length piece.old }
+    requires reached { HasReachedSome (S.files shelf.old) (S.left shelf.old) (K.written out.old) run.old engine.old room }
+    ensures files { S.files shelf.new ≡ S.files shelf.old }
+    ensures started { OnOk result (S.started shelf.new ≡ true) }
+    ensures grid { engine.new.grid ≡ engine.old.grid }
+    ensures engine { IsEngine engine.new }
+    ensures less { IfOk result (IsLess room) }
+    ensures leads { (name : List ℕ) (before : Option (List ℕ)) → Reached (S.files shelf.old) name (S.left shelf.old) before (K.written out.old) engine.old.grid run.old engine.old room
+        → Leads (S.files shelf.old) name (S.left shelf.new) before (K.written out.new) engine.old.grid run.new engine.new result }
+    ensures shelf { TellsFaults (S.faults shelf.old) (S.faults shelf.new) (IsErrOf result EventsStop.ReadFailed) }
+    ensures out { TellsFaults (K.faults out.old) (K.faults out.new) (IsErrOf result EventsStop.WriteFailed) }
+{
+    lines_from_parts();
+    lines_of_limit();
+    run_of_parts();
+    let count = match shelf.read(piece) {
+        Ok(count) => count,
+        Err(_) => return Err(EventsStop::ReadFailed),
+    };
+    if count == 0 {
+        let last = run.end(alloc, engine);
+        put_entries(out, run, last)?;
+        return Ok(Progress::Ended);
+    }
+    let taken = run.take_piece(alloc, engine, &piece[..count.min(room)]);
+    put_entries(out, run, taken)?;
+    if count > room {
+        return Err(EventsStop::TooManyBytes);
+    }
+    Ok(Progress::More { room: room - count })
+}
+
+/// How many event lines of a file were refused: reads it piece by piece, applies or refuses each
+/// event, and writes the entries of the lines that end in a piece before the next is read.
+pub fn run_events<S: Shelf, K: Sink>(
+    alloc: Global,
+    shelf: &mut S,
+    name: &str,
+    engine: &mut Engine,
+    out: &mut K,
+) -> Result<u64, EventsStop>
+    requires allowed { S.allows name.now }
+    requires engine { IsEngineAfter [] engine.old }
+    ensures files { S.files shelf.new ≡ S.files shelf.old }
+    ensures grid { engine.new.grid ≡ engine.old.grid }
+    ensures engine { IsEngine engine.new }
+    ensures few { IfOk result (λ _. engine.new.field.applied ≤ 2_000_000) }
+    ensures all { IfOk result (DidReadAll (S.files shelf.old) name.now (S.left shelf.new) (K.written out.old) (K.written out.new) engine.old.grid engine.new) }
+    ensures stopped { IfErr result (Stops (S.files shelf.old) name.now (K.written out.old) (K.written out.new) engine.old.grid) }
+    ensures shelf { TellsFaults (S.faults shelf.old) (S.faults shelf.new) (IsErrOf result EventsStop.ReadFailed) }
+    ensures out { TellsFaults (K.faults out.old) (K.faults out.new) (IsErrOf result EventsStop.WriteFailed) }
+{
+    lines_from_parts();
+    if shelf.start(name).is_err() {
+        return Err(EventsStop::ReadFailed);
+    }
+    let mut run = Run::new(alloc);
+    let mut piece = [0; PIECE];
+    let mut room = MOST_EVENTS;
+    'reads: loop {
+        match read_more(alloc, shelf, engine, out, &mut run, &mut piece, room)? {
+            Progress::More { room: left } => room = left,
+            Progress::Ended => return Ok(run.taken.refused(engine)),
+        }
+    }
+}

@@ -1,0 +1,202 @@
+//! The lines that a run has taken.
+ghost use Rattle.std.specs.Prelude.{◌≡◌, ◌≢◌, ◌≤◌, ◌<◌, ◌+◌, ◌++◌, ◌∷◌, [], ℕ, List, length, Err, OnOk, IsErrOf};
+ghost use Rattle.grid_model.specs.declared.history.Event.{Event};
+ghost use Rattle.line_text.specs.BlockReading.{AreLeft};
+ghost use Rattle.event_reader.specs.Reading.{IsReading};
+ghost use Rattle.event_reader.specs.declared.refusal.ReadRefusal.{ReadRefusal};
+ghost use Rattle.history_rules.specs.Posed.{IsOfGrid, refusal_of, joined};
+ghost use Rattle.history_rules.specs.Run.{outcome_by};
+ghost use Rattle.history_rules.specs.Output.{entry, refused_row};
+ghost use Rattle.history_rules.specs.Report.{refused_in};
+ghost use Rattle.outage_engine.specs.Engined.{Engined, IsEngineAfter, IsEngine};
+ghost use Rattle.report_text.specs.Entered.{rule_of};
+ghost use Rattle.event_run.specs.Pieces.{HasTaken, HasTakenSome, IsOneTooMany, HasMet};
+
+use crate::unread::rule_in;
+use event_reader::{ReadRefusal, next_event};
+use grid_model::Event;
+use history_rules::{refused_are_the_rest, run_of_parts};
+use line_text::BlockReader;
+use outage_engine::Engine;
+use report_text::{LineRule, put_changes, put_refused};
+use std::alloc::{AllocError, Global};
+
+/// The greatest number of event lines that aren't skipped.
+pub(crate) const MOST_EVENT_LINES: u32 = 2_000_000;
+
+/// Why a run stops at a line.
+#[derive(Clone, Copy, Debug, PartialEq, Eq)]
+pub(crate) enum LineStop {
+    /// It is one more than may count.
+    TooMany,
+    /// Memory ran out.
+    Memory,
+}
+
+impl From<AllocError> for LineStop {
+    ghost use Rattle.std.specs.Prelude.{◌≡◌};
+    ghost use Rattle.event_run.specs.declared.taken.LineStop.TheVariants.{Memory};
+
+    ghost from_gives = { λ _ stop. stop ≡ Memory };
+
+    fn from(_: AllocError) -> LineStop {
+        LineStop::Memory
+    }
+}
+
+/// The number of lines so far, of those that aren't skipped, and the entries that aren't written yet.
+#[derive(Drop)]
+pub(crate) struct Taken {
+    pub(crate) number: u32,
+    pub(crate) counted: u32,
+    pub(crate) entries: Vec<u8>,
+}
+
+impl Taken {
+    /// No lines.
+    pub(crate) fn new(alloc: Global) -> Taken
+        ensures number { result.number ≡ 0 }
+        ensures counted { result.counted ≡ 0 }
+        ensures entries { result.entries.items ≡ [] }
+    {
+        Taken {
+            number: 0,
+            counted: 0,
+            entries: Vec::new(alloc),
+        }
+    }
+
+    /// How many of the lines were refused, whose events the engine has taken: those that count and
+    /// whose event wasn't applied.
+    pub(crate) fn refused(&self, engine: &Engine) -> u64
+        requires { HasTakenSome self.now engine.now }
+        ensures { (lines : List (List ℕ)) (written : List ℕ) → HasTaken lines written self.now engine.now → result ≡ refused_in engine.now.grid [] lines }
+    {
+        refused_are_the_rest();
+        u64::from(self.counted) - engine.field().applied()
+    }
+
+    // Numbers and counts the next line, which isn't skipped.
+    fn count(&mut self) -> Result<(), LineStop>
+        requires room { self.old.number < 4_294_967_295 }
+        ensures number { OnOk result (self.new.number ≡ self.old.number + 1) }
+        ensures counted { OnOk result (self.new.counted ≡ self.old.counted + 1) }
+        ensures few { OnOk result (self.new.counted ≤ 2_000_000) }
+        ensures same { OnOk result (self.new.entries ≡ self.old.entries) }
+        ensures many { IsErrOf result LineStop.TooMany → 2_000_000 ≤ self.old.counted }
+        ensures kept { IsErrOf result LineStop.TooMany → self.new ≡ self.old }
+        ensures no_memory { IsErrOf result LineStop.Memory → ⊥ }
+    {
+        if self.counted >= MOST_EVENT_LINES {
+            return Err(LineStop::TooMany);
+        }
+        self.number += 1;
+        self.counted += 1;
+        Ok(())
+    }
+
+    // Takes a line that is refused.
+    fn take_refused(&mut self, rule: LineRule) -> Result<(), LineStop>
+        requires room { self.old.number < 4_294_967_295 }
+        ensures number { OnOk result (self.new.number ≡ self.old.number + 1) }
+        ensures counted { OnOk result (self.new.counted ≡ self.old.counted + 1) }
+        ensures few { OnOk result (self.new.counted ≤ 2_000_000) }
+        ensures printed { OnOk result (self.new.entries.items ≡ self.old.entries.items ++ refused_row (self.old.number + 1) (rule_of rule)) }
+        ensures many { IsErrOf result LineStop.TooMany → 2_000_000 ≤ self.old.counted }
+        ensures kept { IsErrOf result LineStop.TooMany → self.new ≡ self.old }
+    {
+        self.count()?;
+        put_refused(&mut self.entries, self.number, rule)?;
+        Ok(())
+    }
+
+    // Takes the event of a line.
+    fn take_event(&mut self, engine: &mut Engine, event: Event) -> Result<(), LineStop>
+        requires engine { IsEngine engine.old }
+        requires of_grid { IsOfGrid engine.old.grid event.what }
+        requires range { event.time.0 ≤ 253_402_300_799 }
+        requires applied { engine.old.field.applied < 2_000_001 }
+        requires room { self.old.number < 4_294_967_295 }
+        ensures number { OnOk result (self.new.number ≡ self.old.number + 1) }
+        ensures counted { OnOk result (self.new.counted ≡ self.old.counted + 1) }
+        ensures few { OnOk result (self.new.counted ≤ 2_000_000) }
+        ensures printed { OnOk result ((h : List Event) → IsEngineAfter h engine.old →
+            self.new.entries.items ≡ self.old.entries.items ++ entry engine.old.grid (self.old.number + 1) h (outcome_by event (refusal_of engine.old.grid h event))) }
+        ensures after { OnOk result ((h : List Event) → IsEngineAfter h engine.old → IsEngineAfter (joined engine.old.grid h event) engine.new) }
+        ensures grid { engine.new.grid ≡ engine.old.grid }
+        ensures engine { IsEngine engine.new }
+        ensures many { IsErrOf result LineStop.TooMany → 2_000_000 ≤ self.old.counted }
+        ensures kept { IsErrOf result LineStop.TooMany → self.new ≡ self.old }
+    {
+        self.count()?;
+        let number = self.number;
+        engine.reserve()?;
+        match engine.apply(event) {
+            Ok(applied) => {
+                let (grid, judged) = (engine.grid(), engine.judged());
+                put_changes(&mut self.entries, number, grid, judged, applied)?;
+                Ok(())
+            }
+            Err(rule) => {
+                put_refused(&mut self.entries, number, LineRule::Unapplied(rule))?;
+                Ok(())
+            }
+        }
+    }
+
+    // Takes what was read of a line.
+    fn take_read(
+        &mut self,
+        engine: &mut Engine,
+        read: Result<Option<Event>, ReadRefusal>,
+    ) -> Result<(), LineStop>
+        requires taken { HasTakenSome self.old engine.old }
+        requires read { (line : List ℕ) × IsReading engine.old.grid line read }
+        requires room { self.old.number < 4_294_967_295 }
+        ensures taken { OnOk result ((lines : List (List ℕ)) (line written : List ℕ) → IsReading engine.old.grid line read → HasTaken lines written self.old engine.old → HasTaken (lines ++ line ∷ []) written self.new engine.new) }
+        ensures number { OnOk result (self.new.number ≤ self.old.number + 1) }
+        ensures many { IsErrOf result LineStop.TooMany → (line : List ℕ) → IsReading engine.old.grid line read → IsOneTooMany self.old line }
+        ensures kept { IsErrOf result LineStop.TooMany → self.new ≡ self.old }
+        ensures memory { OnOk result (read ≢ Err ReadRefusal.Memory) }
+        ensures grid { engine.new.grid ≡ engine.old.grid }
+        ensures engine { IsEngine engine.new }
+    {
+        run_of_parts();
+        match read {
+            Ok(None) => {
+                self.number += 1;
+                Ok(())
+            }
+            Ok(Some(event)) => {
+                self.take_event(engine, event)?;
+                Ok(())
+            }
+            Err(refusal) => match rule_in(refusal) {
+                Some(rule) => {
+                    self.take_refused(LineRule::Unread(rule))?;
+                    Ok(())
+                }
+                None => Err(LineStop::Memory),
+            },
+        }
+    }
+
+    /// Takes the lines of a block. It stops before one that is one more than may count.
+    pub(crate) fn take_lines(
+        &mut self,
+        engine: &mut Engine,
+        lines: &mut BlockReader<'_>,
+    ) -> Result<(), LineStop>
+        requires taken { HasTakenSome self.old engine.old }
+        requires left { (all : List (List ℕ)) × AreLeft lines.old all × (self.old.number + length all ≤ 4_294_967_294) }
+        ensures taken { OnOk result ((sofar all : List (List ℕ)) (written : List ℕ) → AreLeft lines.old all → HasTaken sofar written self.old engine.old → HasTaken (sofar ++ all) written self.new engine.new) }
+        ensures met { IsErrOf result LineStop.TooMany → (sofar all : List (List ℕ)) (written : List ℕ) → AreLeft lines.old all → HasTaken sofar written self.old engine.old → HasMet (sofar ++ all) written self.new engine.old.grid }
+        ensures grid { engine.new.grid ≡ engine.old.grid }
+        ensures engine { IsEngine engine.new }
+    {
+        'lines: while let Some(read) = next_event(lines, engine.grid()) {
+            self.take_read(engine, read)?;
+        }
+        Ok(())
+    }
+}

@@ -1,0 +1,5 @@
+pub mod Faults
+pub mod Number
+pub mod Files
+pub mod Told
+pub mod Run
