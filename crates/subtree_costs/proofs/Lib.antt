@@ -1,0 +1,17 @@
+mod Moved
+mod Due
+mod Hung
+mod Repairing
+mod Chains
+mod Listed
+mod Unfed
+mod Placed
+mod Added
+mod Summed
+mod Ordered
+mod Kept
+mod Changed
+mod Feeding
+mod Reaching
+mod Worked
+mod Built

@@ -1,0 +1,38 @@
+//! What kept costs say.
+ghost use Rattle.subtree_costs.specs.Laws.{RowsAreLeast, TotalIsLeast, FedRowsAreExact, ChainsAreWithinReach};
+
+use outage_rules::{
+    exact_table_is_reference, least_cost_is_least, live_is_a_walk, row_is_least, tight_passes,
+};
+
+/// Each kept row is the least cost of its part where its node is live, and the cost where it is dark.
+pub fn rows_are_least()
+    ensures { RowsAreLeast }
+{
+    row_is_least();
+}
+
+/// The kept total is the least cost over all feasible sets.
+pub fn total_is_least()
+    ensures { TotalIsLeast }
+{
+    fed_rows_are_exact();
+    exact_table_is_reference();
+    tight_passes();
+    least_cost_is_least();
+}
+
+/// Over the fed nodes the kept rows are an exact table of what is posed, and the total is its bound.
+pub fn fed_rows_are_exact()
+    ensures { FedRowsAreExact }
+{
+    live_is_a_walk();
+    exact_table_is_reference();
+}
+
+/// No chain of devices from a node up to its root is longer than the node's reach.
+pub fn chains_are_within_reach()
+    ensures { ChainsAreWithinReach }
+{
+    fed_rows_are_exact();
+}
