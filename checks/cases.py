@@ -567,10 +567,61 @@ def word_cases(draw, count):
     return cases
 
 
+# Edges that draws seldom meet, three cases each
+
+def later(seconds, what):
+    return f"{put_stamp(FIRST_SECOND + seconds)},{what}"
+
+
+EDGE_ROWS = ["device,Q,fuse,C,Z,closed,r1000001", "device,Q,fuse,C,Z,closed,1000001", "set,call,0", "set,grace,10000001", "meter,M9,C,0", "meter,M9,C,1000001"]
+EDGE_STORMS = [
+    # a call that a power-up answers
+    *([later(0, f"call,{meter}"), later(1, f"powerup,{meter}")] for meter in ("M1", "M2", "M3")),
+    # the last second of a live signal's hold
+    *([later(0, f"confirm,{device},open"), later(1, f"powerup,{meter}"), later(900, "clock"), later(901, "clock")] for device, meter in (("F1", "M1"), ("T1", "M3"), ("T2", "M4"))),
+    # two groups of as many customers, with the later number first, since one of them is told of earlier, or at all
+    *([later(0, f"{what},M4{more}"), later(second, f"{what},M3{more}")] for what, more, second in (("gasp", "", 1), ("gasp", "", 60), ("ping", ",down", 300))),
+    [later(0, "confirm,T1,open"), later(0, "gasp,M4")], [later(0, "gasp,M4"), later(5, "confirm,T1,open")], [later(0, "confirm,T1,open"), later(1, "ping,M4,down")],
+]
+EDGE_EVENTS = [[later(0, "gasp,M1"), later(0, "call,M2")], [later(0, "gasp,M3"), later(7, "gasp,M1"), later(9, "gasp,M2")], [later(0, "gasp,M1"), later(0, "gasp,M4"), later(0, "gasp,M2"), later(1, "powerup,M3")]]
+
+
+def edge_reports(report):
+    """A report, changed at one edge at a time: what is read of it, and what a check says."""
+    first = report.index(b"bounds,")
+    before, lines = report[:first], report[first:].split(b"\n")[:-1]
+    source = next(at for at, line in enumerate(lines) if line.startswith(b"row,S,"))
+
+    def field(place, number, text):
+        fields = lines[place].split(b",")
+        return lines[:place] + [b",".join(fields[:number] + [text] + fields[number + 1:])] + lines[place + 1:]
+
+    below = next(at for at, line in enumerate(lines) if line.startswith(b"row,A,"))
+    live = int(lines[below].split(b",")[4])
+    changed = [lines + [b""], lines[:source] + lines[source + 1:], field(source, 3, b"1000001"), field(source, 2, b"B1")]
+    changed += [field(0, 1, cost) for cost in (b"1000000000000001", b"1000000000000000", b"1" + 30 * b"0")] + [field(source, 4, b"1000000000000000")]
+    changed += [field(below, 4, str(live + more).encode()) for more in (1, 10)]
+    return [before + b"".join(line + b"\n" for line in it) for it in changed]
+
+
+def edge_cases():
+    replay, check = [b"replay", b"net", b"events", b"--bounds"], [b"check", b"net", b"events", b"report"]
+    rows, cases = TREE.split("\n")[:-1], []
+    for row in EDGE_ROWS:
+        for at in (len(rows), len(rows) - 1, len(rows) - 4):
+            cases.append(Case("edges", replay, {b"net": "\n".join(rows[:at] + [row] + rows[at:]).encode(), b"events": b""}, b""))
+    cases += [Case("edges", replay, {b"net": TREE.encode(), b"events": "\n".join(lines).encode()}, b"") for lines in EDGE_STORMS]
+    for lines in EDGE_EVENTS:
+        files = {b"net": TREE.encode(), b"events": "\n".join(lines).encode()}
+        report = answer(replay, files)[1]
+        cases += [Case("edges", check, {**files, b"report": changed}, b"") for changed in edge_reports(report)]
+    return cases
+
+
 def all_cases(count, seed):
-    """So many storms, and cases of all other families in proportion."""
+    """So many storms, cases of the other families in proportion, and all edges."""
     cases = []
     for family, part in ((storm_case, 1), (line_case, 0.4), (network_case, 0.6), (check_case, 0.8), (report_case, 0.5)):
         draw = random.Random(f"{seed} {family.__name__}")
         cases += [family(draw) for _ in range(round(count * part))]
-    return cases + word_cases(random.Random(f"{seed} words"), max(150, round(count / 2)))
+    return cases + word_cases(random.Random(f"{seed} words"), max(150, round(count / 2))) + edge_cases()
