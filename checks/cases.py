@@ -520,7 +520,8 @@ def report_case(draw):
 FROM, TO, FROM_ALONE, TO_ALONE = b"--from=2024-03-01T10:00:00Z", b"--to=2024-03-01T10:05:00Z", b"2024-03-01T10:00:01Z", b"2024-03-01T10:06:00Z"
 WORDS = [
     [], [b"replay"], [b"replay", b"net"], [b"replay", b"net", b"events", b"events"], [b"check", b"net", b"events"], [b"check", b"net", b"events", b"report", b"report"],
-    [b"trial", b"1"], [b"Replay", b"net", b"events"], [b"--bounds", b"replay", b"net", b"events"], [b"", b"net", b"events"], [b"-", b"net", b"events"], [b"--", b"replay", b"net", b"events"],
+    [b"trial"], [b"trial", b"0"], [b"trial", b"--", b"0"], [b"trial", b"0", b"--"], [b"trial", b"101"], [b"trial", b"--", b"101"], [b"trial", b"101", b"--"],
+    [b"trial", b"1", b"2"], [b"trial", b"01"], [b"trial", b"one"], [b"trial", b""], [b"trial", b"-1"], [b"trial", b"1", b"--bounds"], [b"trial", FROM, b"1"], [b"trial", b"1", TO], [b"Replay", b"net", b"events"], [b"--bounds", b"replay", b"net", b"events"], [b"", b"net", b"events"], [b"-", b"net", b"events"], [b"--", b"replay", b"net", b"events"],
     [b"check", b"net", b"events", b"report", b"--bounds"], [b"check", b"net", b"events", b"report", FROM], [b"check", b"--", b"net", b"events", b"report"],
     [b"replay", b"missing", b"missing"], [b"replay", b"net", b"missing"], [b"check", b"net", b"events", b"missing"], [b"replay", b"", b"events"], [b"replay", b"net", b""],
     [b"replay", b"bad", b"missing"], [b"check", b"bad", b"missing", b"missing"], [b"check", b"net", b"missing", b"report"], [b"check", b"net", b"events", b"events"],

@@ -26,8 +26,8 @@ ROW_FIELDS = {b"source": 2, b"device": 7, b"meter": 4, b"set": 3}
 EVENT_FIELDS = {b"call": 3, b"gasp": 3, b"ping": 4, b"powerup": 3, b"confirm": 4, b"restore": 3, b"open": 3, b"close": 3, b"clock": 2}
 LAST_FIELDS = {b"ping": (b"up", b"down"), b"confirm": (b"open", b"ok", b"clear")}
 OF_METERS = (b"call", b"gasp", b"ping", b"powerup")
-PLACES = {b"replay": 2, b"check": 3}
-USAGE = "usage: replay NET EVENTS [--bounds] [--from T] [--to T], check NET EVENTS REPORT"
+PLACES = {b"replay": 2, b"check": 3, b"trial": 1}
+USAGE = "usage: replay NET EVENTS [--bounds] [--from T] [--to T], check NET EVENTS REPORT, trial N"
 MOST_LINE = 512
 MOST_NODES, MOST_DEVICES, MOST_METERS = 200_000, 400_000, 500_000
 MOST_COST, MOST_DEPTH = 1_000_000_000_000_000, 1_000_000
@@ -712,6 +712,8 @@ def read_words(words):
     is_period = None not in options.values() and not (b"--from" in options and b"--to" in options and start >= until)
     if PLACES.get(command) != len(places) or (options and command != b"replay") or not is_period:
         raise End(2, USAGE)
+    if command == b"trial" and read_decimal(places[0], 1, 100) is None:
+        raise End(2, USAGE)
     return command, places, b"--bounds" in options, start, until
 
 
@@ -729,6 +731,9 @@ def answer(words, files, given=b""):
 
     try:
         command, places, is_bounded, start, until = read_words(words)
+        if command == b"trial":
+            # what a trial writes is compared with a replay of the same texts in checks/run
+            return 0, b"", b""
         run = Run(read_network(read(places[0])), read(places[1]))
         if command == b"check":
             verdict = Check(run.last, read_report(run.network, read(places[2]))).verdict()

@@ -48,13 +48,14 @@ pub fn check(
         → IsCertified (problem_after grid.now h) (cut_of bounds.now.cuts) bounds.now.cost) }
 {
     field_poses();
+    let costs = field.costs();
     check_states(
         alloc,
         grid,
-        field.closed(),
-        field.marks(),
-        field.dark_weights(),
-        field.live_weights(),
+        costs.forest().closed(),
+        costs.marks(),
+        costs.dark_weights(),
+        costs.live_weights(),
         bounds,
     )
 }

@@ -1,7 +1,6 @@
 -- What holds where a check ends.
-use Rattle.std.proofs.Common.{◌≡◌, ℕ, List, [], Option, None, Some, inl, refl, sym, ap, ◌∙◌, subst, length}
+use Rattle.std.proofs.Common.{◌≡◌, ℕ, List, [], Option, None, Some, inl, refl, sym, subst, length}
 use Rattle.std.specs.Io.KnownBytes.{Appends}
-use Rattle.grid_model.specs.Parts.{Parts}
 use Rattle.grid_model.specs.declared.history.Event.{Event}
 use Rattle.history_rules.specs.Posed.{problem_after}
 use Rattle.history_rules.specs.Run.{history_of}

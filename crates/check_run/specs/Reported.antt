@@ -5,8 +5,8 @@ use Rattle.bound_table.specs.Table.{Table}
 use Rattle.outage_ports.specs.Bytes.{Files}
 use Rattle.run_rules.specs.Files.{most_report, IsTooLong, SaysBounds, RefusesReportAt}
 use Rattle.run_rules.specs.declared.status.Status.{Status}
-use Rattle.run_rules.specs.declared.status.Status.TheVariants.{Done, Invalid, Usage, ReadFault, WriteFault, NetworkRefused, ReportRefused, Limit, Memory}
-use Rattle.run_rules.specs.declared.status.Which.TheVariants.{NetworkBytes, EventLines, EventBytes, ReportBytes}
+use Rattle.run_rules.specs.declared.status.Status.TheVariants.{ReadFault, ReportRefused, Limit, Memory}
+use Rattle.run_rules.specs.declared.status.Which.TheVariants.{ReportBytes}
 use Rattle.engine_run.specs.Ended.{WhereTold}
 
 -- the report was read to its end, and has these bounds

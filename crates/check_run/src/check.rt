@@ -8,11 +8,10 @@ ghost use Rattle.run_rules.specs.Run.{IsSilent};
 ghost use Rattle.engine_run.specs.Ended.{IsEnd};
 ghost use Rattle.check_run.specs.Reported.{DidSayBounds, IsReportStop};
 
-use crate::nowhere::Nowhere;
 use crate::verdicts::{status_by, text_of, verdict_by};
 use bound_table::{BoundFault, Bounds, read_bounds};
 use command_words::Places;
-use engine_run::run_engine;
+use engine_run::{Nowhere, run_engine};
 use grid_model::Grid;
 use outage_ports::{Shelf, Sink, put_all};
 use run_rules::{Status, Which};

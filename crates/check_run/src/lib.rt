@@ -2,7 +2,6 @@
 #![tactic(auto)]
 
 mod check;
-mod nowhere;
 mod verdicts;
 
 pub use check::run_check;

@@ -1,25 +1,25 @@
 -- The parse of a check gives what our parts give.
-use Rattle.std.proofs.Common.{◌≡◌, ◌∙◌, ap, sym, refl, subst, ℕ, Bool, true, false, List, [], ◌∷◌, ◌++◌, map, Option, Some, None}
+use Rattle.std.proofs.Common.{◌≡◌, ◌∙◌, ap, sym, refl, subst, ℕ, Bool, true, false, List, [], ◌∷◌, ◌++◌, Option, Some, None}
 use Rattle.std.specs.Prelude.{codes, ◌||◌, not, option_map, ◌==◌}
-use Rattle.std.specs.Str.{bytes_eq}
 use Rattle.clap.specs.Kinds.{Kinds, check_kinds, or_else}
 use Rattle.clap.specs.Walk.{Row, Text, finished, has_row, idle, nothing_held, walk_from, with_default}
 use Rattle.clap.specs.Takes.{is_given}
-use Rattle.clap.specs.Faults.{check_fault, defaults_fault, turn_fault}
+use Rattle.clap.specs.Faults.{check_fault, defaults_fault}
 use Rattle.clap.specs.declared.error.kind.ErrorKind.TheVariants as kind
 use Rattle.clap.specs.declared.builder.value_parser.Reading.TheVariants.{AsWritten}
 use Rattle.clap.specs.declared.parser.matches.ValueSource.TheVariants.{CommandLine}
-use Rattle.command_words.specs.Forms.{Part, Place, Bounds, From, To, Stray, part_of, parts_of, takes_next}
+use Rattle.command_words.specs.Forms.{Part, Place, parts_of}
 use Rattle.command_words.specs.Given.{check_after}
-use Rattle.command_words.proofs.Taking.{check_place, check_past, parts_dashes, parts_pair, parts_last, parts_lone, parts_none}
+use Rattle.command_words.specs.Matched.{Read}
+use Rattle.command_words.proofs.Taking.{check_place, check_past, check_option}
 use Rattle.command_words.proofs.Outcome.{outcome, left_of, goes_on, ends, last, end_fault}
 use Rattle.command_words.proofs.RowsFound.{row_at, value_row, first_place, second_place, found_behind, other_behind, used_first}
-use Rattle.command_words.proofs.Looks.{AllSpelled, Dashed, Look, Plain, look}
-use Rattle.command_words.proofs.Looks as word
+use Rattle.command_words.proofs.Looks.{AllSpelled}
 use Rattle.command_words.proofs.Turns.{Pending, Placed, at, events_rule, held, net_rule, use_net, use_events}
 use Rattle.command_words.proofs.CheckTurns as turn
 use Rattle.command_words.proofs.CheckTurns.{owed, kept, check_shape, check_rules, report_rule}
-use Rattle.command_words.proofs.ReplaySteps.{Read, absent}
+use Rattle.command_words.proofs.ReplaySteps.{absent}
+use Rattle.command_words.proofs.PlacesWalk.{Follows, Form, OnlyPlaces, places_follow}
 use Rattle.command_words.proofs.ReplayWalk.{covered, one_default, all_defaults, same_rows, given_is}
 
 abbrev position : List Text → ℕ
@@ -46,9 +46,11 @@ pub record Seen (rows : List Row) (places : List Text) : Type 0 where
   pub events : row_at (codes "events") rows ≡ option_map (value_row (codes "events")) (second_place places)
   pub report : row_at (codes "report") rows ≡ option_map (value_row (codes "report")) (third_place places)
 
-abbrev Follows : Read → Bool → List Text → List Part → Type 0
-Follows read t words parts = (rows : List Row) (p : Pending) (ps : List Text) → owed rows p ≡ [] → Seen (kept rows p) ps → Few ps
-    → left_of check_shape read (at rows p idle (position ps) t) words ≡ check_after ps parts
+abbrev Fits : List Row → Pending → List Text → Type 0
+Fits rows p ps = (owed rows p ≡ []) × Seen (kept rows p) ps × Few ps
+
+abbrev form : Read → Form
+form read = record { shape = check_shape; read = read; position = position; after = check_after; Fits = Fits }
 
 -- what is read of the rows of a command is the command
 abbrev pub Reads : Read → Type 0
@@ -108,29 +110,29 @@ seen_report rows a e w s =
     }
 
 place_step : (read : Read) (t : Bool) (w : Text) (words : List Text) (parts : List Part) → Placed t w
-    → Follows read t words parts → Follows read t (w ∷ words) (Place w ∷ parts)
-place_step read t w words parts h next rows p [] fine s few =
+    → Follows (form read) t words parts → Follows (form read) t (w ∷ words) (Place w ∷ parts)
+place_step read t w words parts h next rows p [] fits =
     goes_on check_shape read (at rows p idle 1 t) (at (kept rows p) (Some (codes "net", w ∷ [])) idle 2 t) w words
-    (turn.fault_net t rows p w h ∙ fine) (turn.after_net t rows p w h)
-    ∙ next (kept rows p) (Some (codes "net", w ∷ [])) (w ∷ []) (net_owed (kept rows p) w s.net)
-    (subst (λ (l : List Row). Seen l (w ∷ [])) (sym (net_kept (kept rows p) w s.net)) (seen_net (kept rows p) w s)) tt
+    (turn.fault_net t rows p w h ∙ fits.0) (turn.after_net t rows p w h)
+    ∙ next (kept rows p) (Some (codes "net", w ∷ [])) (w ∷ [])
+    (net_owed (kept rows p) w fits.1.net, subst (λ (l : List Row). Seen l (w ∷ [])) (sym (net_kept (kept rows p) w fits.1.net)) (seen_net (kept rows p) w fits.1), tt)
     ∙ sym (check_place ([]) w parts)
-place_step read t w words parts h next rows p (a ∷ []) fine s few =
+place_step read t w words parts h next rows p (a ∷ []) fits =
     goes_on check_shape read (at rows p idle 2 t) (at (kept rows p) (Some (codes "events", w ∷ [])) idle 3 t) w words
-    (turn.fault_events t rows p w h ∙ fine) (turn.after_events t rows p w h)
-    ∙ next (kept rows p) (Some (codes "events", w ∷ [])) (a ∷ w ∷ []) (events_owed (kept rows p) w s.events)
-    (subst (λ (l : List Row). Seen l (a ∷ w ∷ [])) (sym (events_kept (kept rows p) w s.events)) (seen_events (kept rows p) a w s)) tt
+    (turn.fault_events t rows p w h ∙ fits.0) (turn.after_events t rows p w h)
+    ∙ next (kept rows p) (Some (codes "events", w ∷ [])) (a ∷ w ∷ [])
+    (events_owed (kept rows p) w fits.1.events, subst (λ (l : List Row). Seen l (a ∷ w ∷ [])) (sym (events_kept (kept rows p) w fits.1.events)) (seen_events (kept rows p) a w fits.1), tt)
     ∙ sym (check_place (a ∷ []) w parts)
-place_step read t w words parts h next rows p (a ∷ e ∷ []) fine s few =
+place_step read t w words parts h next rows p (a ∷ e ∷ []) fits =
     goes_on check_shape read (at rows p idle 3 t) (at (kept rows p) (Some (codes "report", w ∷ [])) idle 4 t) w words
-    (turn.fault_report t rows p w h ∙ fine) (turn.after_report t rows p w h)
-    ∙ next (kept rows p) (Some (codes "report", w ∷ [])) (a ∷ e ∷ w ∷ []) (report_owed (kept rows p) w s.report)
-    (subst (λ (l : List Row). Seen l (a ∷ e ∷ w ∷ [])) (sym (report_kept (kept rows p) w s.report)) (seen_report (kept rows p) a e w s)) tt
+    (turn.fault_report t rows p w h ∙ fits.0) (turn.after_report t rows p w h)
+    ∙ next (kept rows p) (Some (codes "report", w ∷ [])) (a ∷ e ∷ w ∷ [])
+    (report_owed (kept rows p) w fits.1.report, subst (λ (l : List Row). Seen l (a ∷ e ∷ w ∷ [])) (sym (report_kept (kept rows p) w fits.1.report)) (seen_report (kept rows p) a e w fits.1), tt)
     ∙ sym (check_place (a ∷ e ∷ []) w parts)
-place_step read t w words parts h next rows p (a ∷ e ∷ c ∷ []) fine s few =
+place_step read t w words parts h next rows p (a ∷ e ∷ c ∷ []) fits =
     ends check_shape read (at rows p idle 4 t) w words kind.UnknownArgument [] (turn.fault_fourth t rows p w h)
     ∙ sym (check_past (a ∷ e ∷ c ∷ []) w parts refl)
-place_step read t w words parts h next rows p (a ∷ e ∷ c ∷ d ∷ ps) fine s few = absurd few
+place_step read t w words parts h next rows p (a ∷ e ∷ c ∷ d ∷ ps) fits = absurd fits.2
 
 -- ---- the end
 
@@ -186,116 +188,41 @@ short_of_places (a ∷ []) few e = refl
 short_of_places (a ∷ b ∷ []) few e = refl
 short_of_places (a ∷ b ∷ c ∷ ps) few e = cc
 
-end_step : (read : Read) → Reads read → (t : Bool) → Follows read t [] []
-end_step read reads t rows p [] fine s few =
+end_step : (read : Read) → Reads read → (t : Bool) → Follows (form read) t [] []
+end_step read reads t rows p [] fits =
     let r = kept rows p in
-    last_is read t rows p 1 (kind.MissingRequiredArgument ∷ []) fine
-    (fault_by r false false false (given_is (codes "net") r None s.net) (given_is (codes "events") r None s.events) (given_is (codes "report") r None s.report))
+    last_is read t rows p 1 (kind.MissingRequiredArgument ∷ []) fits.0
+    (fault_by r false false false (given_is (codes "net") r None fits.1.net) (given_is (codes "events") r None fits.1.events) (given_is (codes "report") r None fits.1.report))
     ∙ sym (short_of_places [] tt refl)
-end_step read reads t rows p (a ∷ []) fine s few =
+end_step read reads t rows p (a ∷ []) fits =
     let r = kept rows p in
-    last_is read t rows p 2 (kind.MissingRequiredArgument ∷ []) fine
-    (fault_by r true false false (given_is (codes "net") r (Some (value_row (codes "net") a)) s.net) (given_is (codes "events") r None s.events) (given_is (codes "report") r None s.report))
+    last_is read t rows p 2 (kind.MissingRequiredArgument ∷ []) fits.0
+    (fault_by r true false false (given_is (codes "net") r (Some (value_row (codes "net") a)) fits.1.net) (given_is (codes "events") r None fits.1.events) (given_is (codes "report") r None fits.1.report))
     ∙ sym (short_of_places (a ∷ []) tt refl)
-end_step read reads t rows p (a ∷ e ∷ []) fine s few =
+end_step read reads t rows p (a ∷ e ∷ []) fits =
     let r = kept rows p in
-    last_is read t rows p 3 (kind.MissingRequiredArgument ∷ []) fine
-    (fault_by r true true false (given_is (codes "net") r (Some (value_row (codes "net") a)) s.net) (given_is (codes "events") r (Some (value_row (codes "events") e)) s.events) (given_is (codes "report") r None s.report))
+    last_is read t rows p 3 (kind.MissingRequiredArgument ∷ []) fits.0
+    (fault_by r true true false (given_is (codes "net") r (Some (value_row (codes "net") a)) fits.1.net) (given_is (codes "events") r (Some (value_row (codes "events") e)) fits.1.events) (given_is (codes "report") r None fits.1.report))
     ∙ sym (short_of_places (a ∷ e ∷ []) tt refl)
-end_step read reads t rows p (a ∷ e ∷ c ∷ []) fine s few =
+end_step read reads t rows p (a ∷ e ∷ c ∷ []) fits =
     let r = kept rows p in
-    last_is read t rows p 4 [] fine
-    (fault_by r true true true (given_is (codes "net") r (Some (value_row (codes "net") a)) s.net) (given_is (codes "events") r (Some (value_row (codes "events") e)) s.events) (given_is (codes "report") r (Some (value_row (codes "report") c)) s.report))
-    ∙ reads r a e c s
-end_step read reads t rows p (a ∷ e ∷ c ∷ d ∷ ps) fine s few = absurd few
+    last_is read t rows p 4 [] fits.0
+    (fault_by r true true true (given_is (codes "net") r (Some (value_row (codes "net") a)) fits.1.net) (given_is (codes "events") r (Some (value_row (codes "events") e)) fits.1.events) (given_is (codes "report") r (Some (value_row (codes "report") c)) fits.1.report))
+    ∙ reads r a e c fits.1
+end_step read reads t rows p (a ∷ e ∷ c ∷ d ∷ ps) fits = absurd fits.2
 
 -- ---- all words
 
-ended : (read : Read) → Reads read → (words : List Text) → Follows read true words (map Place words)
-ended read reads [] = end_step read reads true
-ended read reads (w ∷ words) = place_step read true w words (map Place words) tt (ended read reads words)
-
--- no check has this part
-abbrev Refused : Part → Type 0
-Refused part = (ps : List Text) (rest : List Part) → check_after ps (part ∷ rest) ≡ None
-
-no_bounds : Refused Bounds
-unfolding check_after
-no_bounds ps rest = refl
-
-no_from : (v : Text) → Refused (From v)
-unfolding check_after
-no_from v ps rest = refl
-
-no_to : (v : Text) → Refused (To v)
-unfolding check_after
-no_to v ps rest = refl
-
-no_stray : Refused Stray
-unfolding check_after
-no_stray ps rest = refl
-
-refused : (read : Read) (w : Text) (words : List Text) (parts rest : List Part) (part : Part) → parts ≡ part ∷ rest → Refused part
-    → ((rows : List Row) (p : Pending) (n : ℕ) → turn_fault check_shape [] (at rows p idle n false) w ≡ kind.UnknownArgument ∷ [])
-    → Follows read false (w ∷ words) parts
-refused read w words parts rest part is none bad rows p ps fine s few =
-    ends check_shape read (at rows p idle (position ps) false) w words kind.UnknownArgument [] (bad rows p (position ps))
-    ∙ sym (ap (λ (l : List Part). check_after ps l) is ∙ none ps rest)
-
-abbrev Alone : Read → Text → List Text → Type 0
-Alone read w words = Follows read false (w ∷ words) (parts_of (w ∷ words))
-
-lone : (read : Read) (w : Text) (words : List Text) (part : Part) → bytes_eq w (codes "--") ≡ false → takes_next w ≡ false → part_of w ≡ part → Refused part
-    → ((rows : List Row) (p : Pending) (n : ℕ) → turn_fault check_shape [] (at rows p idle n false) w ≡ kind.UnknownArgument ∷ []) → Alone read w words
-lone read w words part d t is none bad =
-    refused read w words (parts_of (w ∷ words)) (parts_of words) part (parts_lone w words d t ∙ ap (λ (q : Part). q ∷ parts_of words) is) none bad
-
-from_or_end : (read : Read) (words : List Text) → Alone read (codes "--from") words
-from_or_end read [] = refused read (codes "--from") [] (parts_of (codes "--from" ∷ [])) (parts_of []) Stray (parts_last (codes "--from") refl) no_stray
-    (λ rows p n. turn.fault_long rows p n (codes "--from") (codes "from") None refl refl)
-from_or_end read (v ∷ rest) = refused read (codes "--from") (v ∷ rest) (parts_of (codes "--from" ∷ v ∷ rest)) (parts_of rest) (From v) (parts_pair (codes "--from") v rest refl refl) (no_from v)
-    (λ rows p n. turn.fault_long rows p n (codes "--from") (codes "from") None refl refl)
-
-to_or_end : (read : Read) (words : List Text) → Alone read (codes "--to") words
-to_or_end read [] = refused read (codes "--to") [] (parts_of (codes "--to" ∷ [])) (parts_of []) Stray (parts_last (codes "--to") refl) no_stray
-    (λ rows p n. turn.fault_long rows p n (codes "--to") (codes "to") None refl refl)
-to_or_end read (v ∷ rest) = refused read (codes "--to") (v ∷ rest) (parts_of (codes "--to" ∷ v ∷ rest)) (parts_of rest) (To v) (parts_pair (codes "--to") v rest refl refl) (no_to v)
-    (λ rows p n. turn.fault_long rows p n (codes "--to") (codes "to") None refl refl)
-
-dashed_word : (read : Read) → Reads read → (w : Text) (words : List Text) → Dashed w → Alone read w words
-dashed_word read reads w words d = go d
-  where
-    along : (v : Text) → w ≡ v → Alone read v words → Alone read w words
-    along v e h = subst (λ (x : Text). Alone read x words) (sym e) h
-
-    go : Dashed w → Alone read w words
-    go (word.dashes e) = along (codes "--") e
-        (subst (Follows read false (codes "--" ∷ words)) (sym (parts_dashes words))
-        (λ rows p ps fine s few. goes_on check_shape read (at rows p idle (position ps) false) (at rows p idle (position ps) true) (codes "--") words
-        (turn.fault_dashes rows p (position ps)) (turn.after_dashes rows p (position ps)) ∙ ended read reads words rows p ps fine s few))
-    go (word.bounds e) = along (codes "--bounds") e (lone read (codes "--bounds") words Bounds refl refl refl no_bounds
-        (λ rows p n. turn.fault_long rows p n (codes "--bounds") (codes "bounds") None refl refl))
-    go (word.bounds_with v e) = along (codes "--bounds=" ++ v) e (lone read (codes "--bounds=" ++ v) words Stray refl refl refl no_stray
-        (λ rows p n. turn.fault_long rows p n (codes "--bounds=" ++ v) (codes "bounds") (Some v) refl refl))
-    go (word.from e) = along (codes "--from") e (from_or_end read words)
-    go (word.from_with v e) = along (codes "--from=" ++ v) e (lone read (codes "--from=" ++ v) words (From v) refl refl refl (no_from v)
-        (λ rows p n. turn.fault_long rows p n (codes "--from=" ++ v) (codes "from") (Some v) refl refl))
-    go (word.to e) = along (codes "--to") e (to_or_end read words)
-    go (word.to_with v e) = along (codes "--to=" ++ v) e (lone read (codes "--to=" ++ v) words (To v) refl refl refl (no_to v)
-        (λ rows p n. turn.fault_long rows p n (codes "--to=" ++ v) (codes "to") (Some v) refl refl))
-    go (word.strange s) = lone read w words Stray s.dashes s.next s.part no_stray (λ rows p n. turn.fault_long rows p n w s.name s.value s.dashes s.long)
-    go (word.short x xs c cs e other is) = along (45 ∷ x ∷ xs) e
-        (lone read (45 ∷ x ∷ xs) words Stray (rw other refl) (rw other refl) (rw other refl) no_stray (λ rows p n. turn.fault_short rows p n x xs c cs other is))
-
-word_step : (read : Read) → Reads read → (w : Text) (words : List Text) → Look w → Follows read false words (parts_of words) → Alone read w words
-word_step read reads w words (word.dashed d) next = dashed_word read reads w words d
-word_step read reads w words (word.place h) next =
-    subst (Follows read false (w ∷ words)) (sym (parts_lone w words h.dashes h.next ∙ ap (λ (q : Part). q ∷ parts_of words) h.part))
-    (place_step read false w words (parts_of words) h next)
-
-open_words : (read : Read) → Reads read → (words : List Text) → AllSpelled words → Follows read false words (parts_of words)
-open_words read reads [] all = subst (Follows read false []) (sym parts_none) (end_step read reads false)
-open_words read reads (w ∷ words) all = word_step read reads w words (look w all.0) (open_words read reads words all.1)
+only_places : (read : Read) → Reads read → OnlyPlaces (form read)
+only_places read reads = record {
+  place_step = place_step read;
+  end_step = end_step read reads;
+  no_option = check_option;
+  fault_dashes = turn.fault_dashes;
+  after_dashes = turn.after_dashes;
+  fault_long = turn.fault_long;
+  fault_short = turn.fault_short;
+}
 
 none_owed : owed [] None ≡ []
 unfolding owed
@@ -308,4 +235,5 @@ none_kept = refl
 pub check_follows : (read : Read) → Reads read → (words : List Text) → AllSpelled words
     → left_of check_shape read (walk_from nothing_held) words ≡ check_after [] (parts_of words)
 check_follows read reads words all =
-    open_words read reads words all [] None [] none_owed (subst (λ (l : List Row). Seen l []) (sym none_kept) (record { net = refl; events = refl; report = refl })) tt
+    places_follow (form read) (only_places read reads) words all [] None []
+    (none_owed, subst (λ (l : List Row). Seen l []) (sym none_kept) (record { net = refl; events = refl; report = refl }), tt)

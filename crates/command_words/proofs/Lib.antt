@@ -1,8 +1,10 @@
 pub mod AppWords
 pub mod CheckTurns
 pub mod CheckWalk
+pub mod Feeders
 pub mod Looks
 pub mod Outcome
+pub mod PlacesWalk
 pub mod ReadRows
 pub mod Reading
 pub mod ReplayOptions
@@ -11,4 +13,6 @@ pub mod ReplayWalk
 pub mod RowsFound
 pub mod Spelled
 pub mod Taking
+pub mod TrialTurns
+pub mod TrialWalk
 pub mod Turns

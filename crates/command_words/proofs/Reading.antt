@@ -1,21 +1,22 @@
 -- What the program reads of the matches.
 use Rattle.std.proofs.Common.{◌≡◌, ◌∙◌, ap, sym, refl, Bool, true, false, List, [], ◌∷◌, Option, Some, None}
 use Rattle.std.specs.Prelude.{codes, option_map, option_and_then, slice_get, if◌then◌else◌}
+use Rattle.std.specs.Str.{bytes_eq}
 use Rattle.clap.specs.Kinds.{Kinds}
 use Rattle.clap.specs.Walk.{Row, Text, first_of, row_text}
 use Rattle.clap.specs.Simple.{subcommand_of}
 use Rattle.clap.specs.Faults.{fault_of}
 use Rattle.command_words.specs.Told.{outage_app}
-use Rattle.command_words.specs.Forms.{Command, Check, Places, command_of, replay_by, wish_by}
-use Rattle.command_words.specs.Given.{check_after, second_in}
-use Rattle.command_words.specs.Matched.{IsKnown, check_in, check_with, command_by_name, flag_by, flag_in, places_by, replay_in}
+use Rattle.command_words.specs.Forms.{Command, Check, Places, command_of, replay_by, trial_over, wish_by}
+use Rattle.command_words.specs.Given.{check_after, second_in, trial_after}
+use Rattle.command_words.specs.Matched.{IsKnown, Read, check_in, check_with, command_by_name, flag_by, flag_in, places_by, replay_in, trial_in}
 use Rattle.command_words.proofs.Taking.{replay_at_end}
 use Rattle.command_words.proofs.RowsFound.{row_at, value_row, flag_row}
 use Rattle.command_words.proofs.Outcome.{outcome}
 use Rattle.command_words.proofs.Looks.{AllSpelled}
-use Rattle.command_words.proofs.ReplaySteps.{Read}
 use Rattle.command_words.proofs.ReplaySteps as replay
 use Rattle.command_words.proofs.CheckWalk as check
+use Rattle.command_words.proofs.TrialWalk as trial
 use Rattle.command_words.proofs.AppWords.{words_follow}
 
 first_is : (id : Text) (rows : List Row) (o : Option Row) → row_at id rows ≡ o → first_of id rows ≡ option_and_then (λ (r : Row). slice_get r.values 0) o
@@ -45,6 +46,10 @@ check_reads rows a e r s =
     ap (λ (x : Option Text). check_with (places_by x (first_of (codes "events") rows)) (first_of (codes "report") rows)) (value_is (codes "net") rows (Some a) s.net)
     ∙ ap (λ (x : Option Text). check_with (places_by (Some a) x) (first_of (codes "report") rows)) (value_is (codes "events") rows (Some e) s.events)
     ∙ ap (λ (x : Option Text). check_with (places_by (Some a) (Some e)) x) (value_is (codes "report") rows (Some r) s.report)
+
+pub trial_reads : trial.Reads trial_in
+unfolding trial_in trial_after
+trial_reads rows a s = ap (λ (x : Option Text). option_and_then trial_over x) (value_is (codes "n") rows (Some a) s)
 
 -- ---- the flag is known
 
@@ -82,23 +87,25 @@ known_if_same rows e = go (flag_in rows) refl
         let none : None ≡ Some (Check (record { net = []; events = [] }) []) = sym (unknown_flag rows is) ∙ e ∙ ap (λ (x : Option Bool). by_flag x rows) is in
         cc
 
-known_at : (o : Option (Text × List Row)) → command_by_name replay_in check_in o ≡ command_by_name lax check_in o → IsKnown o
+known_at : (o : Option (Text × List Row)) → command_by_name replay_in check_in trial_in o ≡ command_by_name lax check_in trial_in o → IsKnown o
 known_at None e = tt
-known_at (Some p) e = λ is. known_if_same p.1 (sym (ap (λ (b : Bool). if b then replay_in p.1 else check_in p.1) is) ∙ e ∙ ap (λ (b : Bool). if b then lax p.1 else check_in p.1) is)
+known_at (Some p) e = λ is.
+    let other = if bytes_eq p.0 (codes "check") then check_in p.1 else trial_in p.1 in
+    known_if_same p.1 (sym (ap (λ (b : Bool). if b then replay_in p.1 else other) is) ∙ e ∙ ap (λ (b : Bool). if b then lax p.1 else other) is)
 
 pub known : (words : List Text) → AllSpelled words → fault_of outage_app words ≡ [] → IsKnown (subcommand_of outage_app words)
 known words all fine =
-    let one = words_follow replay_in check_in replay_reads check_reads words all in
-    let two = words_follow lax check_in lax_reads check_reads words all in
+    let one = words_follow replay_in check_in trial_in replay_reads check_reads trial_reads words all in
+    let two = words_follow lax check_in trial_in lax_reads check_reads trial_reads words all in
     known_at (subcommand_of outage_app words)
-    (sym (ap (λ (k : Kinds). outcome k (command_by_name replay_in check_in (subcommand_of outage_app words))) fine) ∙ one ∙ sym two
-    ∙ ap (λ (k : Kinds). outcome k (command_by_name lax check_in (subcommand_of outage_app words))) fine)
+    (sym (ap (λ (k : Kinds). outcome k (command_by_name replay_in check_in trial_in (subcommand_of outage_app words))) fine) ∙ one ∙ sym two
+    ∙ ap (λ (k : Kinds). outcome k (command_by_name lax check_in trial_in (subcommand_of outage_app words))) fine)
 
 -- the command of words that are parsed
-pub command_parsed : (words : List Text) → AllSpelled words → fault_of outage_app words ≡ [] → command_by_name replay_in check_in (subcommand_of outage_app words) ≡ command_of words
+pub command_parsed : (words : List Text) → AllSpelled words → fault_of outage_app words ≡ [] → command_by_name replay_in check_in trial_in (subcommand_of outage_app words) ≡ command_of words
 command_parsed words all fine =
-    sym (ap (λ (k : Kinds). outcome k (command_by_name replay_in check_in (subcommand_of outage_app words))) fine)
-    ∙ words_follow replay_in check_in replay_reads check_reads words all
+    sym (ap (λ (k : Kinds). outcome k (command_by_name replay_in check_in trial_in (subcommand_of outage_app words))) fine)
+    ∙ words_follow replay_in check_in trial_in replay_reads check_reads trial_reads words all
 
 outcome_of_fault : (l : Kinds) (c : Option Command) → (l ≡ [] → ⊥) → outcome l c ≡ None
 outcome_of_fault [] c h = absurd (h refl)
@@ -107,5 +114,5 @@ outcome_of_fault (k ∷ ks) c h = refl
 -- words that are refused have none
 pub command_refused : (words : List Text) → AllSpelled words → (fault_of outage_app words ≡ [] → ⊥) → command_of words ≡ None
 command_refused words all bad =
-    sym (words_follow replay_in check_in replay_reads check_reads words all)
-    ∙ outcome_of_fault (fault_of outage_app words) (command_by_name replay_in check_in (subcommand_of outage_app words)) bad
+    sym (words_follow replay_in check_in trial_in replay_reads check_reads trial_reads words all)
+    ∙ outcome_of_fault (fault_of outage_app words) (command_by_name replay_in check_in trial_in (subcommand_of outage_app words)) bad

@@ -9,6 +9,7 @@ use Rattle.clap.specs.declared.error.kind.ErrorKind.TheVariants as kind
 use Rattle.clap.specs.declared.builder.value_parser.Reading.TheVariants.{AsWritten}
 use Rattle.clap.specs.declared.parser.matches.ValueSource.TheVariants.{CommandLine}
 use Rattle.command_words.specs.Forms.{Command, Part, From, To, Stray}
+use Rattle.command_words.specs.Matched.{Read}
 use Rattle.command_words.proofs.Taking.{given, stray_ends, from_next, from_again, from_no_stamp, to_next, to_again, to_no_stamp}
 use Rattle.command_words.proofs.Outcome.{outcome, left_of, goes_on, ends, last, or_else-nil}
 use Rattle.command_words.proofs.RowsFound.{row_at, used_first, value_row, Seen, seen_from, seen_until}
@@ -16,7 +17,7 @@ use Rattle.command_words.proofs.Looks.{AllSpelled, Dashed, Look, Plain, Spelled,
 use Rattle.command_words.proofs.Looks as word
 use Rattle.command_words.proofs.Turns as turn
 use Rattle.command_words.proofs.Turns.{Pending, at, held, owed, kept, replay_shape, replay_rules, from_rule, to_rule}
-use Rattle.command_words.proofs.ReplaySteps.{Few, Follows, Read, absent, present, clear, none_owed, none_kept, position}
+use Rattle.command_words.proofs.ReplaySteps.{Few, Follows, absent, present, clear, none_owed, none_kept, position}
 
 -- ---- something is wrong with what waits for its end
 

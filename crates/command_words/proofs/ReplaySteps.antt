@@ -8,8 +8,9 @@ use Rattle.clap.specs.declared.error.kind.ErrorKind.{ErrorKind}
 use Rattle.clap.specs.declared.error.kind.ErrorKind.TheVariants as kind
 use Rattle.clap.specs.declared.builder.value_parser.Reading.TheVariants.{AsWritten}
 use Rattle.clap.specs.declared.parser.matches.ValueSource.TheVariants.{CommandLine}
-use Rattle.command_words.specs.Forms.{Command, Part, Place, Bounds, Stray}
+use Rattle.command_words.specs.Forms.{Part, Place, Bounds, Stray}
 use Rattle.command_words.specs.Given.{replay_after}
+use Rattle.command_words.specs.Matched.{Read}
 use Rattle.command_words.proofs.Taking.{given, stray_ends, place_next, two_taken, bounds_next, bounds_again}
 use Rattle.command_words.proofs.Outcome.{left_of, goes_on, ends, or_else-nil}
 use Rattle.command_words.proofs.RowsFound.{row_at, has_row_is, used_first, value_row, flag_row, Seen, Complete, seen_net, seen_events, seen_bounds}
@@ -27,9 +28,6 @@ Few [] = Unit {0}
 Few (a ∷ []) = Unit {0}
 Few (a ∷ b ∷ []) = Unit {0}
 Few (a ∷ b ∷ c ∷ rest) = ⊥
-
-abbrev pub Read : Type 0
-Read = List Row → Option Command
 
 -- the parse of the words gives what our parts give, from wherever it stands
 abbrev pub Follows : Read → Bool → List Text → List Part → Type 0

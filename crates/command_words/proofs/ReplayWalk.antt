@@ -13,6 +13,7 @@ use Rattle.clap.specs.declared.builder.value_parser.Reading.TheVariants.{AsWritt
 use Rattle.clap.specs.declared.parser.matches.ValueSource.TheVariants.{DefaultValue}
 use Rattle.command_words.specs.Forms.{Part, Place, Bounds, From, To, Stray, part_of, parts_of, takes_next}
 use Rattle.command_words.specs.Given.{replay_after}
+use Rattle.command_words.specs.Matched.{Read}
 use Rattle.command_words.proofs.Taking.{given, no_place, one_place, parts_dashes, parts_pair, parts_last, parts_lone, parts_none}
 use Rattle.command_words.proofs.Outcome.{outcome, left_of, last, end_fault}
 use Rattle.command_words.proofs.RowsFound.{row_at, flag_row, flag_given, value_row, Seen, with_flag, complete, at_end, seen_none}
@@ -20,7 +21,7 @@ use Rattle.command_words.proofs.Looks.{AllSpelled, Dashed, Look, Spelled, look}
 use Rattle.command_words.proofs.Looks as word
 use Rattle.command_words.proofs.Turns as turn
 use Rattle.command_words.proofs.Turns.{Pending, at, held, owed, kept, replay_shape, replay_rules, net_rule, events_rule, bounds_rule, from_rule, to_rule}
-use Rattle.command_words.proofs.ReplaySteps.{Follows, Read, Reads, absent, present, none_owed, none_kept, place_step, dashes_step, refused_step, bounds_step}
+use Rattle.command_words.proofs.ReplaySteps.{Follows, Reads, absent, present, none_owed, none_kept, place_step, dashes_step, refused_step, bounds_step}
 use Rattle.command_words.proofs.ReplayOptions.{from_with_step, to_with_step, from_step, to_step, from_last, to_last}
 
 -- ---- the defaults

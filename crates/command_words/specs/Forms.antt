@@ -1,9 +1,10 @@
 -- The forms of the command words.
-use Rattle.std.specs.Prelude.{ℕ, ◌==◌, ◌&&◌, ◌||◌, not, nat_lt, Bool, true, false, List, [], ◌∷◌, Option, Some, None, if◌then◌else◌, option_map, map, drop, take, length, codes, filter_map}
+use Rattle.std.specs.Prelude.{ℕ, ◌≤◌, ◌&&◌, ◌||◌, not, nat_lt, Bool, true, false, List, [], ◌∷◌, Option, Some, None, if◌then◌else◌, option_map, map, drop, take, codes, filter_map}
 use Rattle.std.specs.List.{list_all, list_any}
 use Rattle.std.specs.Str.{bytes_eq}
 use Rattle.grid_model.specs.declared.history.Period.{Period}
 use Rattle.grid_model.specs.declared.history.Stamp.{Stamp}
+use Rattle.event_rules.specs.Decimals.{decimal_within}
 use Rattle.event_rules.specs.Lines.{begins_with}
 use Rattle.event_rules.specs.Stamps.{stamp_of}
 use Rattle.command_words.specs.declared.words.Wish.{Wish}
@@ -13,10 +14,11 @@ pub record Places : Type 0 where
   pub net : List ℕ
   pub events : List ℕ
 
--- what the words ask for: a replay, or the check of a report
+-- what the words ask for: a replay, the check of a report, or a trial over so many feeders
 pub data Command : Type 0 where
   Replay : (places : Places) (wish : Wish) → Command
   Check : (places : Places) (report : List ℕ) → Command
+  Trial : (feeders : ℕ) → Command
 
 -- what a word says, or an option together with the word behind it
 pub data Part : Type 0 where
@@ -140,9 +142,22 @@ check_by _ = None
 abbrev pub check_of : List Part → Option Command
 check_of parts = if list_all is_place parts then check_by (filter_map place_in parts) else None
 
+-- a trial over as many feeders as a word writes, from 1 to 100
+abbrev pub trial_over : List ℕ → Option Command
+trial_over word = option_map Trial (decimal_within 1 100 word)
+
+abbrev pub trial_by : List (List ℕ) → Option Command
+trial_by (word ∷ []) = trial_over word
+trial_by _ = None
+
+-- trial N, without options
+abbrev pub trial_of : List Part → Option Command
+trial_of parts = if list_all is_place parts then trial_by (filter_map place_in parts) else None
+
 abbrev pub command_by : List ℕ → List Part → Option Command
 command_by word parts =
-    if bytes_eq word (codes "replay") then replay_of parts else (if bytes_eq word (codes "check") then check_of parts else None)
+    if bytes_eq word (codes "replay") then replay_of parts
+    else (if bytes_eq word (codes "check") then check_of parts else (if bytes_eq word (codes "trial") then trial_of parts else None))
 
 -- the command of the words behind the program's name, where they are of a form
 unfoldable pub command_of : List (List ℕ) → Option Command
@@ -154,7 +169,13 @@ command_of (program ∷ word ∷ rest) = command_by word (parts_of rest)
 abbrev pub AllowsFiles : (List ℕ → Type 0) → Command → Type 0
 AllowsFiles allows (Replay places wish) = allows places.net × allows places.events
 AllowsFiles allows (Check places report) = allows places.net × allows places.events × allows report
+AllowsFiles allows (Trial feeders) = Unit {0}
 
 abbrev pub Allows : (List ℕ → Type 0) → Option Command → Type 0
 Allows allows None = Unit {0}
 Allows allows (Some command) = AllowsFiles allows command
+
+-- a trial is over 1 to 100 feeders
+abbrev pub HasFeeders : Command → Type 0
+HasFeeders (Trial feeders) = (1 ≤ feeders) × (feeders ≤ 100)
+HasFeeders command = Unit {0}

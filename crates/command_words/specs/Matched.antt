@@ -1,8 +1,8 @@
 -- What is read of the matches of a command.
-use Rattle.std.specs.Prelude.{◌≡◌, Bool, true, false, List, Option, Some, None, if◌then◌else◌, codes}
+use Rattle.std.specs.Prelude.{◌≡◌, Bool, true, false, List, Option, Some, None, if◌then◌else◌, option_and_then, codes}
 use Rattle.std.specs.Str.{bytes_eq}
 use Rattle.clap.specs.Walk.{Row, Text, first_of, one_of}
-use Rattle.command_words.specs.Forms.{Command, Places, Check, replay_by, wish_by}
+use Rattle.command_words.specs.Forms.{Command, Places, Check, replay_by, trial_over, wish_by}
 use Rattle.command_words.specs.Given.{second_in}
 
 abbrev pub places_by : Option Text → Option Text → Option Places
@@ -30,10 +30,18 @@ unfoldable pub check_in : List Row → Option Command
 check_in rows =
     check_with (places_by (first_of (codes "net") rows) (first_of (codes "events") rows)) (first_of (codes "report") rows)
 
+unfoldable pub trial_in : List Row → Option Command
+trial_in rows = option_and_then trial_over (first_of (codes "n") rows)
+
+-- what reads a command from rows
+abbrev pub Read : Type 0
+Read = List Row → Option Command
+
 -- what is read of a subcommand, by its name and its rows
-abbrev pub command_by_name : (List Row → Option Command) → (List Row → Option Command) → Option (Text × List Row) → Option Command
-command_by_name replay check None = None
-command_by_name replay check (Some p) = if bytes_eq p.0 (codes "replay") then replay p.1 else check p.1
+abbrev pub command_by_name : Read → Read → Read → Option (Text × List Row) → Option Command
+command_by_name replay check trial None = None
+command_by_name replay check trial (Some p) =
+    if bytes_eq p.0 (codes "replay") then replay p.1 else (if bytes_eq p.0 (codes "check") then check p.1 else trial p.1)
 
 -- the text of the flag says whether it is set
 abbrev pub IsKnown : Option (Text × List Row) → Type 0

@@ -1,12 +1,13 @@
-//! The wish that texts of options give.
+//! The wish that texts of options give, and the number that a place gives.
 ghost use Rattle.std.specs.Prelude.{◌≡◌, Some, option_map, not};
 ghost use Rattle.std.specs.Option.{option_copied};
+ghost use Rattle.event_rules.specs.Decimals.{decimal_within};
 ghost use Rattle.command_words.specs.Forms.{wish_by, wish_with, runs_on};
 ghost use Rattle.command_words.specs.Given.{second_in};
 
 use crate::words::Wish;
 use grid_model::{Period, Stamp};
-use line_text::read_stamp;
+use line_text::{read_decimal, read_stamp};
 
 // The second that the text of an option names; none, of a text that is no stamp.
 fn read_second(text: Option<&str>) -> Option<Option<Stamp>>
@@ -51,4 +52,15 @@ pub(crate) fn read_wish(with_bounds: bool, from: Option<&str>, until: Option<&st
     let from = read_second(from)?;
     let until = read_second(until)?;
     wish_between(with_bounds, from, until)
+}
+
+// The most feeders that a trial is over.
+const MOST_FEEDERS: u64 = 100;
+
+/// The number of feeders that a text writes, from 1 to 100.
+pub(crate) fn read_feeders(text: &str) -> Option<u32>
+    ensures { result ≡ decimal_within 1 100 text.entry.now }
+{
+    let feeders = read_decimal(text.as_bytes(), MOST_FEEDERS)?;
+    (feeders >= 1).then_some(feeders as u32)
 }

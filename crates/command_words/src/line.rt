@@ -2,7 +2,7 @@
 ghost use Rattle.std.specs.Prelude.{◌≡◌, false, IfOk};
 ghost use Rattle.clap.specs.Words.{rule_of, app_of};
 ghost use Rattle.clap.specs.declared.builder.command.Command.TheViews.{out-Command as fields_of};
-ghost use Rattle.command_words.specs.Told.{place_rule, option_rule, flag_rule, replay_places_app, replay_app, check_app, bare_app, replays_app, outage_app};
+ghost use Rattle.command_words.specs.Told.{place_rule, option_rule, flag_rule, replay_places_app, replay_app, check_app, trial_app, bare_app, replays_app, checks_app, outage_app};
 
 use clap::{Arg, ArgAction, Command};
 use std::alloc::{AllocError, Global};
@@ -36,6 +36,13 @@ fn check<'a>(alloc: Global) -> Result<Command<'a>, AllocError>
         .arg(place(alloc, "net"))?
         .arg(place(alloc, "events"))?
         .arg(place(alloc, "report"))
+}
+
+fn trial<'a>(alloc: Global) -> Result<Command<'a>, AllocError>
+    ensures app { IfOk result (λ c. app_of c ≡ trial_app) }
+    ensures local { IfOk result (λ c. (fields_of c).has_globals ≡ false) }
+{
+    Command::new(alloc, "trial").arg(place(alloc, "n"))
 }
 
 fn replay_places<'a>(alloc: Global) -> Result<Command<'a>, AllocError>
@@ -75,11 +82,18 @@ fn with_replay<'a>(alloc: Global) -> Result<Command<'a>, AllocError>
     bare(alloc).subcommand(replay(alloc)?)
 }
 
-/// The program's command line: `replay` and `check`.
+fn with_check<'a>(alloc: Global) -> Result<Command<'a>, AllocError>
+    ensures app { IfOk result (λ c. app_of c ≡ checks_app) }
+    ensures local { IfOk result (λ c. (fields_of c).has_globals ≡ false) }
+{
+    with_replay(alloc)?.subcommand(check(alloc)?)
+}
+
+/// The program's command line: `replay`, `check` and `trial`.
 #[tactic(auto, unfolding(crate::specs::Told::outage_app))]
 pub(crate) fn command_line<'a>(alloc: Global) -> Result<Command<'a>, AllocError>
     ensures app { IfOk result (λ c. app_of c ≡ outage_app) }
     ensures local { IfOk result (λ c. (fields_of c).has_globals ≡ false) }
 {
-    with_replay(alloc)?.subcommand(check(alloc)?)
+    with_check(alloc)?.subcommand(trial(alloc)?)
 }

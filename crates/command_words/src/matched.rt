@@ -1,12 +1,12 @@
 //! The command that matches of the command line give.
-ghost use Rattle.std.specs.Prelude.{◌≡◌, Bool, Some, option_map, codes};
+ghost use Rattle.std.specs.Prelude.{◌≡◌, Bool, Some, option_map, option_and_then, codes};
 ghost use Rattle.clap.specs.Words.{found_of, rows_of, subcommand_rows_of};
-ghost use Rattle.command_words.specs.Matched.{IsKnown, command_by_name, replay_in, check_in, check_with, flag_in, places_by};
+ghost use Rattle.command_words.specs.Matched.{IsKnown, command_by_name, replay_in, check_in, check_with, trial_in, flag_in, places_by};
 ghost use Rattle.command_words.specs.Seen.{command_view, places_view};
 ghost use Rattle.std.specs.Option.{option_copied};
-ghost use Rattle.command_words.specs.Forms.{replay_by};
+ghost use Rattle.command_words.specs.Forms.{replay_by, trial_over};
 
-use crate::given::read_wish;
+use crate::given::{read_feeders, read_wish};
 use crate::words::{Command, Places, Wish};
 use clap::ArgMatches;
 
@@ -58,19 +58,40 @@ fn read_check<'a>(matches: &ArgMatches<'a>) -> Option<Command<'a>>
     check_of(places_of(net, events), report)
 }
 
-/// The command of the matches; none where an option is no stamp, or where a period ends before it
-/// begins.
+fn trial_of<'a>(feeders: Option<&str>) -> Option<Command<'a>>
+    ensures { option_map command_view result ≡ option_and_then trial_over (option_copied feeders.entry) }
+{
+    Some(Command::Trial(read_feeders(feeders?)?))
+}
+
+fn read_trial<'a>(matches: &ArgMatches<'a>) -> Option<Command<'a>>
+    ensures { option_map command_view result ≡ trial_in (rows_of (found_of matches.now)) }
+{
+    trial_of(matches.get_str("n"))
+}
+
+// The command of a subcommand, by its name.
+fn read_named<'a>(name: &str, matches: &ArgMatches<'a>) -> Option<Command<'a>>
+    requires { IsKnown (Some (name.now, rows_of (found_of matches.now))) }
+    ensures { option_map command_view result ≡ command_by_name replay_in check_in trial_in (Some (name.now, rows_of (found_of matches.now))) }
+{
+    if name == "replay" {
+        return read_replay(matches);
+    }
+    if name == "check" {
+        return read_check(matches);
+    }
+    read_trial(matches)
+}
+
+/// The command of the matches; none where an option is no stamp, where a period ends before it
+/// begins, or where a place is to be a number and is none.
 pub(crate) fn read_matches<'a>(matches: &ArgMatches<'a>) -> Option<Command<'a>>
     requires { IsKnown (subcommand_rows_of matches.now) }
-    ensures { option_map command_view result ≡ command_by_name replay_in check_in (subcommand_rows_of matches.now) }
+    ensures { option_map command_view result ≡ command_by_name replay_in check_in trial_in (subcommand_rows_of matches.now) }
 {
     match matches.subcommand() {
-        Some((name, inner)) => {
-            if name == "replay" {
-                return read_replay(inner);
-            }
-            read_check(inner)
-        }
+        Some((name, inner)) => read_named(name, inner),
         None => None,
     }
 }

@@ -1,7 +1,7 @@
 //! The command words.
 ghost use Rattle.std.specs.Prelude.{◌≡◌, ◌≢◌, [], map, string_bytes, Some, None, IfOk, OnOk, IsErrOf};
 ghost use Rattle.clap.specs.Words.{app_of, fault_of, subcommand_of, subcommand_rows_of};
-ghost use Rattle.command_words.specs.Forms.{command_of};
+ghost use Rattle.command_words.specs.Forms.{HasFeeders, command_of};
 ghost use Rattle.command_words.specs.Seen.{command_view};
 ghost use Rattle.command_words.specs.Told.{outage_app};
 
@@ -35,6 +35,8 @@ pub enum Command<'a> {
     Replay(Places<'a>, Wish),
     /// The check of a report.
     Check(Places<'a>, &'a str),
+    /// A trial over so many feeders, from 1 to 100.
+    Trial(u32),
 }
 
 /// Why the words give no command.
@@ -67,6 +69,7 @@ fn read_by<'a>(line: clap::Command<'a>, words: &'a [String]) -> Result<Command<'
     requires { app_of line ≡ outage_app }
     ensures command { IfOk result (λ command. command_of (map string_bytes words.entry.now) ≡ Some (command_view command)) }
     ensures usage { IsErrOf result WordsFault.Usage → command_of (map string_bytes words.entry.now) ≡ None }
+    ensures feeders { IfOk result (λ command. HasFeeders (command_view command)) }
 {
     match parse(line, words) {
         Ok(matches) => match read_matches(&matches) {
@@ -81,6 +84,7 @@ fn read_by<'a>(line: clap::Command<'a>, words: &'a [String]) -> Result<Command<'
 pub fn read_words<'a>(alloc: Global, words: &'a [String]) -> Result<Command<'a>, WordsFault>
     ensures command { IfOk result (λ command. command_of (map string_bytes words.entry.now) ≡ Some (command_view command)) }
     ensures usage { IsErrOf result WordsFault.Usage → command_of (map string_bytes words.entry.now) ≡ None }
+    ensures feeders { IfOk result (λ command. HasFeeders (command_view command)) }
 {
     match command_line(alloc) {
         Ok(line) => read_by(line, words),

@@ -9,8 +9,6 @@ ghost use Rattle.crew_list.specs.Listed.{outage_at};
 mod chains;
 mod groups;
 mod ranks;
-#[cfg(test)]
-mod tests;
 
 use chains::whole_reaches;
 use grid_model::Outage;

@@ -1,127 +1,175 @@
--- Flags of devices and nodes, from the first node of an order to the last.
-use Rattle.std.proofs.Common.{◌≡◌, ◌≢◌, ℕ, suc, ◌<◌, Bool, true, false, refl, sym, ap, ◌∙◌, subst, ⊎_elim, arith, List, length}
-use Rattle.std.specs.Prelude.{◌==◌, ◌||◌, ◌&&◌, not}
-use Rattle.std.proofs.lemmas.Bool.{cases_eq, eq-eqb, and_from, and_parts, and_right, false≢true, not_from_true}
-use Rattle.outage_rules.specs.Network.{Problem, Cut, IsSound, nothing}
-use Rattle.outage_rules.specs.Certificate.{Table, has_parent, upper, is_cheaper_open, IsForest, AgreeWithRows}
-use Rattle.outage_rules.proofs.Balance.{same_child}
-use Rattle.grid_model.specs.declared.parts.NodeId.{NodeId}
-use Rattle.radial_forest.specs.Traversed.{Traversed, node_at, table_of, IsOrder}
-use Rattle.diagnosis.specs.Passes.{with_rows}
+-- Flags of nodes and devices, from the first node of an order to the last.
+use Rattle.std.proofs.Common.{◌≡◌, ◌≢◌, ℕ, suc, ◌+◌, ◌<◌, ◌≤◌, Bool, false, cond, refl, sym, ap, ◌∙◌, subst, inl, inr, ⊎_elim, arith, below_more, List, length, set, Option, Some, None}
+use Rattle.std.specs.Prelude.{◌||◌, ◌⊎◌, not}
+use Rattle.std.proofs.lemmas.Bool.{eq-eqb, ne_eqb, false≢true}
+use Rattle.std.proofs.lemmas.List.{get_or-set_same, get_or-set_other, length-set}
+use Rattle.outage_rules.specs.Network.{Network, Cut}
+use Rattle.outage_rules.specs.Certificate.{other_end}
+use Rattle.grid_model.specs.declared.parts.DeviceId.{DeviceId}
+use Rattle.grid_model.specs.Parts.{Parts}
+use Rattle.grid_model.specs.Places.{is_source, device_at}
+use Rattle.grid_model.specs.Network.{network_of}
+use Rattle.grid_model.specs.Problem.{mark_at}
+use Rattle.radial_forest.specs.Traversed.{parent_in, node_at}
+use Rattle.radial_forest.specs.Forested.{IsParentOf}
+use Rattle.subtree_costs.specs.Shares.{row_at}
+use Rattle.subtree_costs.specs.Costed.{Costed, IsCosted, problem_in}
+use Rattle.diagnosis.specs.Judgement.{Agree, AgreeAt, flag_in, opens}
 
--- the nodes below place k of the order and their parent devices are flagged, and the others as if nothing were fed
-pub record AreFlagged (p : Problem) (t : Table) (order : List NodeId) (k : ℕ) (cut : Cut) (dark : ℕ → Bool) : Type 0 where
-  pub sources : (j : ℕ) → j < k → has_parent p.net t (node_at order j) ≡ false → dark (node_at order j) ≡ false
-  pub below : (j : ℕ) → j < k → has_parent p.net t (node_at order j) ≡ true →
-      dark (node_at order j) ≡ (dark (upper p.net t (node_at order j)) || cut (t.parent (node_at order j)))
-  pub opened : (j : ℕ) → j < k → has_parent p.net t (node_at order j) ≡ true →
-      cut (t.parent (node_at order j)) ≡ (p.marked_open (t.parent (node_at order j)) || (not (dark (upper p.net t (node_at order j))) && is_cheaper_open p t (node_at order j)))
-  pub unlisted : (n : ℕ) → n < p.nodes → t.is_listed n ≡ false → dark n ≡ true
-  pub others : (d : ℕ) → d < p.devices → ((j : ℕ) → j < k → has_parent p.net t (node_at order j) ≡ true → t.parent (node_at order j) ≢ d) →
-      cut d ≡ (p.is_closed d && p.marked_open d)
+-- the nodes below place k of the order and their parent devices are flagged, and no other device is opened
+pub record AreFlagged (g : Parts) (c : Costed) (k : ℕ) (opened dark : List Bool) : Type 0 where
+  pub opened_each : length opened ≡ length g.devices
+  pub dark_each : length dark ≡ length g.nodes
+  pub at : (j : ℕ) → j < k → AgreeAt g c (flag_in opened) (flag_in dark) (node_at c.order j)
+  pub open_ones : (d : ℕ) → d < length g.devices → flag_in c.forest.closed d ≡ false → flag_in opened d ≡ false
 
-module _ (p : Problem) (v : Traversed) (sound : IsSound p) (forest : IsForest p.net (table_of v)) (order : IsOrder p.net v) (live_row dark_row : ℕ → ℕ) where
+-- one more node is flagged
+pub record IsNext (g : Parts) (c : Costed) (n : ℕ) (o d o' d' : List Bool) : Type 0 where
+  pub top : parent_in c.forest.parents n ≡ None → (o' ≡ o) × (d' ≡ set d n (not (is_source g n)))
+  pub opened : (x : DeviceId) → parent_in c.forest.parents n ≡ Some x
+      → o' ≡ set o x.0 (opens (mark_at c.marks x.0) (flag_in d (other_end (network_of g) x.0 n)) ((device_at g x.0).weight + (row_at c.rows n).dark) (row_at c.rows n).live)
+  pub dark : (x : DeviceId) → parent_in c.forest.parents n ≡ Some x → d' ≡ set d n (flag_in d (other_end (network_of g) x.0 n) || flag_in o' x.0)
+
+none_some : (o : Option DeviceId) (d : DeviceId) → o ≡ None → o ≡ Some d → ⊥
+none_some o d a b = cc
+
+same_some : (a b : DeviceId) → Some a ≡ Some b → a ≡ b
+same_some a b e = cc
+
+either_parent : (o : Option DeviceId) → (o ≡ None) ⊎ ((d : DeviceId) × (o ≡ Some d))
+either_parent None = inl refl
+either_parent (Some d) = inr (d, refl)
+
+-- of a device with two different ends each is the other end of the other
+ends_cross : (net : Network) (d m n : ℕ) → m ≢ n → (net.from d ≡ m) ⊎ (net.to d ≡ m) → (net.from d ≡ n) ⊎ (net.to d ≡ n) → other_end net d m ≡ n
+ends_cross net d m n ne (inl a) (inl b) = absurd (ne (sym a ∙ b))
+ends_cross net d m n ne (inl a) (inr b) = ap (λ x. cond x (net.from d) (net.to d)) (ne_eqb (net.to d) m (λ e. ne (sym e ∙ b))) ∙ b
+ends_cross net d m n ne (inr a) (inl b) = ap (λ x. cond x (net.from d) (net.to d)) (eq-eqb (net.to d) m a) ∙ b
+ends_cross net d m n ne (inr a) (inr b) = absurd (ne (sym a ∙ b))
+
+-- flags stay right where none that they speak of changed
+agree_still : (g : Parts) (c : Costed) (cut cut' : Cut) (dark dark' : ℕ → Bool) (m : ℕ) → AgreeAt g c cut dark m → dark' m ≡ dark m
+    → ((d : DeviceId) → parent_in c.forest.parents m ≡ Some d → (cut' d.0 ≡ cut d.0) × (dark' (other_end (network_of g) d.0 m) ≡ dark (other_end (network_of g) d.0 m)))
+    → AgreeAt g c cut' dark' m
+agree_still g c cut cut' dark dark' m before same above = record {
+  top = λ e. same ∙ before.top e;
+  opened = λ d e. let s = above d e in
+      s.0 ∙ before.opened d e
+      ∙ ap (λ b. opens (mark_at c.marks d.0) b ((device_at g d.0).weight + (row_at c.rows m).dark) (row_at c.rows m).live) (sym s.1);
+  below = λ d e. let s = above d e in
+      same ∙ before.below d e ∙ ap (λ b. b || cut d.0) (sym s.1) ∙ ap (λ b. dark' (other_end (network_of g) d.0 m) || b) (sym s.0);
+}
+
+module _ (g : Parts) (c : Costed) (costed : IsCosted g c) where
+  abbrev net : Network
+  net = (problem_in g c).net
+
+  module _ (k : ℕ) (l : k < length c.order) where
+    -- an earlier node is another one, and so is the node above it
+    apart : (j : ℕ) → j < k → node_at c.order j ≢ node_at c.order k
+    apart j lj = costed.order.once j k lj l
+
+    above_apart : (j : ℕ) → j ≤ k → (d : DeviceId) → parent_in c.forest.parents (node_at c.order j) ≡ Some d → other_end (network_of g) d.0 (node_at c.order j) ≢ node_at c.order k
+    above_apart j le d e s =
+        let b = costed.order.behind j d (omega arith) e in
+        costed.order.once b.0 k (let x = b.1 in omega arith) l (b.2 ∙ s)
+
+    -- and it hangs from another device
+    device_apart : (j : ℕ) → j < k → (d e : DeviceId) → parent_in c.forest.parents (node_at c.order j) ≡ Some d → parent_in c.forest.parents (node_at c.order k) ≡ Some e → d.0 ≢ e.0
+    device_apart j lj d e is_d is_e s =
+        let h = costed.posed.forest.rooted.parent (node_at c.order j) d (costed.order.within j (omega arith)) is_d in
+        let i = costed.posed.forest.rooted.parent (node_at c.order k) e (costed.order.within k l) is_e in
+        above_apart j (omega arith) d is_d
+        (ends_cross (network_of g) d.0 (node_at c.order j) (node_at c.order k) (apart j lj) h.ends
+        (subst (λ x. ((network_of g).from x ≡ node_at c.order k) ⊎ ((network_of g).to x ≡ node_at c.order k)) (sym s) i.ends))
+
+    module _ (opened dark opened' dark' : List Bool) (before : AreFlagged g c k opened dark) (next : IsNext g c (node_at c.order k) opened dark opened' dark') where
+      abbrev n : ℕ
+      n = node_at c.order k
+
+      within : n < length g.nodes
+      within = costed.order.within k l
+
+      -- the node is a root
+      at_top : parent_in c.forest.parents n ≡ None → AreFlagged g c (k + 1) opened' dark'
+      at_top e =
+          let is = next.top e in
+          subst (λ xs. AreFlagged g c (k + 1) xs dark') (sym is.0)
+          (subst (λ xs. AreFlagged g c (k + 1) opened xs) (sym is.1) flagged)
+        where
+          flagged : AreFlagged g c (k + 1) opened (set dark n (not (is_source g n)))
+          flagged = record {
+            opened_each = before.opened_each;
+            dark_each = length-set dark n (not (is_source g n)) ∙ before.dark_each;
+            at = below_more _ _
+                (λ j lj. agree_still g c (flag_in opened) (flag_in opened) (flag_in dark) (flag_in (set dark n (not (is_source g n)))) (node_at c.order j) (before.at j lj)
+                (get_or-set_other dark n (node_at c.order j) (not (is_source g n)) false (apart j lj))
+                (λ d is_d. (refl, get_or-set_other dark n (other_end (network_of g) d.0 (node_at c.order j)) (not (is_source g n)) false (above_apart j (omega arith) d is_d))))
+                (record {
+                  top = λ s. get_or-set_same dark n (not (is_source g n)) false (let a = within in let b = before.dark_each in omega arith);
+                  opened = λ d s. absurd (none_some (parent_in c.forest.parents n) d e s);
+                  below = λ d s. absurd (none_some (parent_in c.forest.parents n) d e s);
+                });
+            open_ones = before.open_ones;
+          }
+
+      -- the node hangs from a device
+      at_device : (d : DeviceId) → parent_in c.forest.parents n ≡ Some d → AreFlagged g c (k + 1) opened' dark'
+      at_device d e = record {
+        opened_each = ap length (next.opened d e) ∙ length-set opened d.0 _ ∙ before.opened_each;
+        dark_each = ap length (next.dark d e) ∙ length-set dark n _ ∙ before.dark_each;
+        at = below_more _ _
+            (λ j lj. agree_still g c (flag_in opened) (flag_in opened') (flag_in dark) (flag_in dark') (node_at c.order j) (before.at j lj)
+            (dark_kept (node_at c.order j) (apart j lj))
+            (λ x is_x. (opened_kept x.0 (device_apart j lj x d is_x e), dark_kept (other_end (network_of g) x.0 (node_at c.order j)) (above_apart j (omega arith) x is_x))))
+            (record {
+              top = λ s. absurd (none_some (parent_in c.forest.parents n) d s e);
+              opened = λ x is_x. subst (λ y. flag_in opened' y.0 ≡ opens (mark_at c.marks y.0) (flag_in dark' (other_end (network_of g) y.0 n)) ((device_at g y.0).weight + (row_at c.rows n).dark) (row_at c.rows n).live)
+                  (same_some d x (sym e ∙ is_x)) opened_here;
+              below = λ x is_x. subst (λ y. flag_in dark' n ≡ (flag_in dark' (other_end (network_of g) y.0 n) || flag_in opened' y.0)) (same_some d x (sym e ∙ is_x)) dark_here;
+            });
+        open_ones = λ x lx u. opened_kept x (λ s. false≢true (sym u ∙ ap (flag_in c.forest.closed) s ∙ hung.closed)) ∙ before.open_ones x lx u;
+      }
+        where
+          hung : IsParentOf net c.forest.roots n d.0
+          hung = costed.posed.forest.rooted.parent n d within e
+
+          dark_kept : (m : ℕ) → m ≢ n → flag_in dark' m ≡ flag_in dark m
+          dark_kept m ne = ap (λ xs. flag_in xs m) (next.dark d e) ∙ get_or-set_other dark n m _ false ne
+
+          opened_kept : (x : ℕ) → x ≢ d.0 → flag_in opened' x ≡ flag_in opened x
+          opened_kept x ne = ap (λ xs. flag_in xs x) (next.opened d e) ∙ get_or-set_other opened d.0 x _ false ne
+
+          above_kept : flag_in dark' (other_end (network_of g) d.0 n) ≡ flag_in dark (other_end (network_of g) d.0 n)
+          above_kept = dark_kept (other_end (network_of g) d.0 n) (above_apart k (omega arith) d e)
+
+          opened_here : flag_in opened' d.0 ≡ opens (mark_at c.marks d.0) (flag_in dark' (other_end (network_of g) d.0 n)) ((device_at g d.0).weight + (row_at c.rows n).dark) (row_at c.rows n).live
+          opened_here =
+              ap (λ xs. flag_in xs d.0) (next.opened d e)
+              ∙ get_or-set_same opened d.0 _ false (let a = hung.within in let b = before.opened_each in omega arith)
+              ∙ ap (λ b. opens (mark_at c.marks d.0) b ((device_at g d.0).weight + (row_at c.rows n).dark) (row_at c.rows n).live) (sym above_kept)
+
+          dark_here : flag_in dark' n ≡ (flag_in dark' (other_end (network_of g) d.0 n) || flag_in opened' d.0)
+          dark_here =
+              ap (λ xs. flag_in xs n) (next.dark d e)
+              ∙ get_or-set_same dark n _ false (let a = within in let b = before.dark_each in omega arith)
+              ∙ ap (λ b. b || flag_in opened' d.0) (sym above_kept)
+
+      pub flagged_next : AreFlagged g c (k + 1) opened' dark'
+      flagged_next = ⊎_elim at_top (λ s. at_device s.0 s.1) (either_parent (parent_in c.forest.parents n))
+
   -- before the first node
-  pub flagged_none : (cut : Cut) (dark : ℕ → Bool) → ((d : ℕ) → d < p.devices → cut d ≡ (p.is_closed d && p.marked_open d)) → ((n : ℕ) → n < p.nodes → dark n ≡ true)
-      → AreFlagged p (with_rows v live_row dark_row) v.order 0 cut dark
-  flagged_none cut dark marked unfed = record {
-    sources = λ j l s. absurd (omega arith);
-    below = λ j l hp. absurd (omega arith);
-    opened = λ j l hp. absurd (omega arith);
-    unlisted = λ n l u. unfed n l;
-    others = λ d l none. marked d l;
+  pub flagged_none : (opened dark : List Bool) → length opened ≡ length g.devices → length dark ≡ length g.nodes → ((d : ℕ) → flag_in opened d ≡ false) → AreFlagged g c 0 opened dark
+  flagged_none opened dark opened_each dark_each none = record {
+    opened_each = opened_each;
+    dark_each = dark_each;
+    at = λ j l. absurd (omega arith);
+    open_ones = λ d l u. none d;
   }
 
-  module _ (cut cut' : Cut) (dark dark' : ℕ → Bool) (k : ℕ) (l : k < length v.order) (before : AreFlagged p (with_rows v live_row dark_row) v.order k cut dark)
-      (dark_kept : (n : ℕ) → n ≢ node_at v.order k → dark' n ≡ dark n) where
-    -- an earlier node is another one, and so is the node that it hangs from
-    apart : (j : ℕ) → j < k → node_at v.order j ≢ node_at v.order k
-    apart j lj = order.once j k lj l
-
-    upper_apart : (j : ℕ) → j < suc k → has_parent p.net (table_of v) (node_at v.order j) ≡ true → upper p.net (table_of v) (node_at v.order j) ≢ node_at v.order k
-    upper_apart j lj hp e =
-        let a = order.after_upper j (omega arith) hp in
-        order.once a.0 k (let b = a.1 in omega arith) l (a.2 ∙ e)
-
-    listed_apart : (n : ℕ) → (table_of v).is_listed n ≡ false → n ≢ node_at v.order k
-    listed_apart n u e = false≢true (sym u ∙ ap (table_of v).is_listed e ∙ (order.listed k l).1)
-
-    module _ (cut_kept : (j : ℕ) → j < k → has_parent p.net (table_of v) (node_at v.order j) ≡ true → cut' ((table_of v).parent (node_at v.order j)) ≡ cut ((table_of v).parent (node_at v.order j)))
-        (at_source : has_parent p.net (table_of v) (node_at v.order k) ≡ false → dark' (node_at v.order k) ≡ false)
-        (at_below : has_parent p.net (table_of v) (node_at v.order k) ≡ true →
-        dark' (node_at v.order k) ≡ (dark (upper p.net (table_of v) (node_at v.order k)) || cut' ((table_of v).parent (node_at v.order k))))
-        (at_opened : has_parent p.net (table_of v) (node_at v.order k) ≡ true →
-        cut' ((table_of v).parent (node_at v.order k)) ≡ (p.marked_open ((table_of v).parent (node_at v.order k)) || (not (dark (upper p.net (table_of v) (node_at v.order k))) && is_cheaper_open p (with_rows v live_row dark_row) (node_at v.order k))))
-        (others_kept : (d : ℕ) → (has_parent p.net (table_of v) (node_at v.order k) ≡ true → (table_of v).parent (node_at v.order k) ≢ d) → cut' d ≡ cut d) where
-      flagged_at : AreFlagged p (with_rows v live_row dark_row) v.order (suc k) cut' dark'
-      flagged_at = record {
-        sources = λ j lj s. ⊎_elim
-            (λ e. subst (λ i. has_parent p.net (table_of v) (node_at v.order i) ≡ false → dark' (node_at v.order i) ≡ false) (sym e) at_source s)
-            (λ ne. let lt : j < k = omega (arith, ne) in dark_kept (node_at v.order j) (apart j lt) ∙ before.sources j lt s)
-            (cases_eq j k);
-        below = λ j lj hp. ⊎_elim
-            (λ e. subst (λ i. has_parent p.net (table_of v) (node_at v.order i) ≡ true → dark' (node_at v.order i) ≡ (dark' (upper p.net (table_of v) (node_at v.order i)) || cut' ((table_of v).parent (node_at v.order i)))) (sym e)
-            (λ h. at_below h ∙ ap (λ b. b || cut' ((table_of v).parent (node_at v.order k))) (sym (dark_kept (upper p.net (table_of v) (node_at v.order k)) (upper_apart k (omega arith) h)))) hp)
-            (λ ne. let lt : j < k = omega (arith, ne) in
-            dark_kept (node_at v.order j) (apart j lt) ∙ before.below j lt hp
-            ∙ ap (λ b. b || cut ((table_of v).parent (node_at v.order j))) (sym (dark_kept (upper p.net (table_of v) (node_at v.order j)) (upper_apart j lj hp)))
-            ∙ ap (λ b. dark' (upper p.net (table_of v) (node_at v.order j)) || b) (sym (cut_kept j lt hp)))
-            (cases_eq j k);
-        opened = λ j lj hp. ⊎_elim
-            (λ e. subst (λ i. has_parent p.net (table_of v) (node_at v.order i) ≡ true → cut' ((table_of v).parent (node_at v.order i)) ≡ (p.marked_open ((table_of v).parent (node_at v.order i)) || (not (dark' (upper p.net (table_of v) (node_at v.order i))) && is_cheaper_open p (with_rows v live_row dark_row) (node_at v.order i)))) (sym e)
-            (λ h. at_opened h ∙ ap (λ b. p.marked_open ((table_of v).parent (node_at v.order k)) || (not b && is_cheaper_open p (with_rows v live_row dark_row) (node_at v.order k))) (sym (dark_kept (upper p.net (table_of v) (node_at v.order k)) (upper_apart k (omega arith) h)))) hp)
-            (λ ne. let lt : j < k = omega (arith, ne) in
-            cut_kept j lt hp ∙ before.opened j lt hp
-            ∙ ap (λ b. p.marked_open ((table_of v).parent (node_at v.order j)) || (not b && is_cheaper_open p (with_rows v live_row dark_row) (node_at v.order j))) (sym (dark_kept (upper p.net (table_of v) (node_at v.order j)) (upper_apart j lj hp))))
-            (cases_eq j k);
-        unlisted = λ n ln u. dark_kept n (listed_apart n u) ∙ before.unlisted n ln u;
-        others = λ d ld none. others_kept d (none k (omega arith)) ∙ before.others d ld (λ j lj. none j (omega arith));
-      }
-
-    -- a source is live
-    pub flagged_source : has_parent p.net (table_of v) (node_at v.order k) ≡ false → dark' (node_at v.order k) ≡ false → ((d : ℕ) → cut' d ≡ cut d)
-        → AreFlagged p (with_rows v live_row dark_row) v.order (suc k) cut' dark'
-    flagged_source hp lit same =
-        flagged_at (λ j lj h. same ((table_of v).parent (node_at v.order j))) (λ h. lit) (λ h. absurd (false≢true (sym hp ∙ h))) (λ h. absurd (false≢true (sym hp ∙ h))) (λ d none. same d)
-
-    -- another node is dark where its upper node is, or its device is opened
-    pub flagged_more : has_parent p.net (table_of v) (node_at v.order k) ≡ true
-        → ((d : ℕ) → d ≢ (table_of v).parent (node_at v.order k) → cut' d ≡ cut d)
-        → cut' ((table_of v).parent (node_at v.order k)) ≡ (p.marked_open ((table_of v).parent (node_at v.order k)) || (not (dark (upper p.net (table_of v) (node_at v.order k))) && is_cheaper_open p (with_rows v live_row dark_row) (node_at v.order k)))
-        → dark' (node_at v.order k) ≡ (dark (upper p.net (table_of v) (node_at v.order k)) || cut' ((table_of v).parent (node_at v.order k)))
-        → AreFlagged p (with_rows v live_row dark_row) v.order (suc k) cut' dark'
-    flagged_more hp same opens darkens =
-        flagged_at (λ j lj h. same ((table_of v).parent (node_at v.order j)) (device_apart j lj h)) (λ h. absurd (false≢true (sym h ∙ hp))) (λ h. darkens) (λ h. opens) (λ d none. same d (λ e. none hp (sym e)))
-      where
-        -- two nodes hang from two devices
-        device_apart : (j : ℕ) → j < k → has_parent p.net (table_of v) (node_at v.order j) ≡ true → (table_of v).parent (node_at v.order j) ≢ (table_of v).parent (node_at v.order k)
-        device_apart j lj h e =
-            apart j lj (same_child p (table_of v) nothing sound forest (node_at v.order j) (node_at v.order k) ((table_of v).parent (node_at v.order k)) (order.listed j (omega arith)).0 (order.listed k l).0
-            (and_from (has_parent p.net (table_of v) (node_at v.order j)) ((table_of v).parent (node_at v.order j) == (table_of v).parent (node_at v.order k)) h (eq-eqb ((table_of v).parent (node_at v.order j)) ((table_of v).parent (node_at v.order k)) e))
-            (and_from (has_parent p.net (table_of v) (node_at v.order k)) ((table_of v).parent (node_at v.order k) == (table_of v).parent (node_at v.order k)) hp (eq-eqb ((table_of v).parent (node_at v.order k)) ((table_of v).parent (node_at v.order k)) refl)))
-
-  -- after the last node the flags agree with the rows
-  pub flags_agree : (cut : Cut) (dark : ℕ → Bool) → AreFlagged p (with_rows v live_row dark_row) v.order (length v.order) cut dark → AgreeWithRows p (with_rows v live_row dark_row) cut dark
-  flags_agree cut dark all = record {
-    flags = record {
-      source = λ n l s. let a = order.all n l (forest.source n l s).0 in
-          ap dark (sym a.2) ∙ all.sources a.0 a.1 (ap (has_parent p.net (table_of v)) a.2 ∙ and_right ((table_of v).is_listed n) (not (p.is_source n)) (not_from_true (p.is_source n) s));
-      below = λ n l hp. let a = order.all n l (and_parts ((table_of v).is_listed n) (not (p.is_source n)) hp).0 in
-          subst (λ m. has_parent p.net (table_of v) m ≡ true → dark m ≡ (dark (upper p.net (table_of v) m) || cut ((table_of v).parent m))) a.2 (all.below a.0 a.1) hp;
-      unlisted = all.unlisted;
-    };
-    below = λ n l hp. let a = order.all n l (and_parts ((table_of v).is_listed n) (not (p.is_source n)) hp).0 in
-        subst (λ m. has_parent p.net (table_of v) m ≡ true → cut ((table_of v).parent m) ≡ (p.marked_open ((table_of v).parent m) || (not (dark (upper p.net (table_of v) m)) && is_cheaper_open p (with_rows v live_row dark_row) m))) a.2 (all.opened a.0 a.1) hp;
-    apart = λ d l c f t. all.others d l (λ j lj hp e.
-        let h = forest.parent (node_at v.order j) (order.listed j lj).0 hp in
-        let on = (order.listed j lj).1 in
-        ⊎_elim
-        (λ x. false≢true (sym f ∙ ap (λ i. (table_of v).is_listed (p.from i)) (sym e) ∙ ap (table_of v).is_listed x ∙ on))
-        (λ x. false≢true (sym t ∙ ap (λ i. (table_of v).is_listed (p.to i)) (sym e) ∙ ap (table_of v).is_listed x ∙ on))
-        h.ends)
-        ∙ ap (λ b. b && p.marked_open d) c;
-    open_ones = λ d l c. all.others d l (λ j lj hp e.
-        let h = forest.parent (node_at v.order j) (order.listed j lj).0 hp in
-        false≢true (sym c ∙ ap p.is_closed (sym e) ∙ h.closed))
-        ∙ ap (λ b. b && p.marked_open d) c;
+  -- after the last one
+  pub flagged_all : (opened dark : List Bool) → AreFlagged g c (length c.order) opened dark → Agree g c (flag_in opened) (flag_in dark)
+  flagged_all opened dark all = record {
+    at = λ n l. let a = costed.order.all n l in subst (AgreeAt g c (flag_in opened) (flag_in dark)) a.2 (all.at a.0 a.1);
+    open_ones = all.open_ones;
   }

@@ -3,11 +3,6 @@ pub mod Added
 pub mod Rows
 pub mod Passing
 pub mod Summing
-pub mod Unfed
+pub mod Agreed
 pub mod Flagged
-pub mod Flagging
-pub mod Fed
-pub mod Distances
-pub mod Judging
 pub mod Differing
-pub mod Feeders

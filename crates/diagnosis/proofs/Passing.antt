@@ -18,8 +18,7 @@ use Rattle.grid_model.specs.Problem.{mark_at, posed}
 use Rattle.grid_model.proofs.SoundParts.{sound_network}
 use Rattle.radial_forest.specs.Traversed.{Traversed, parent_in, number_of_device, node_at, table_of, IsTraversed}
 use Rattle.diagnosis.specs.declared.above.Above.{Above}
-use Rattle.diagnosis.specs.declared.passes.Posed.{Posed}
-use Rattle.diagnosis.specs.Passes.{above_by, live_added, dark_added, with_rows, problem_in, table_in, IsReady}
+use Rattle.diagnosis.specs.Passes.{above_by, live_added, dark_added, with_rows}
 use Rattle.diagnosis.proofs.Rows.{AreAdded, IsLight, added_none, passed_over, added_more, exact}
 
 -- what the device above a node is
@@ -134,51 +133,3 @@ module _ (xs : List ℕ) (u x : ℕ) where
 
   pub set_here : u < length xs → get_or (set xs u x) u 0 ≡ x
   set_here l = get_or-set_same xs u x 0 l
-
--- the passes over rows
-module _ (q : Posed) (ready : IsReady q) where
-  dark_small : total (length q.grid.now.nodes) (λ n. get_or q.dark_weights.now n 0) ≤ 1000000000000
-  dark_small = let a = total_is_sum (length q.grid.now.nodes) q.dark_weights.now ready.dark_each in let b = ready.dark_bound in omega arith
-
-  live_small : total (length q.grid.now.nodes) (λ n. get_or q.live_weights.now n 0) ≤ 1000000000000
-  live_small = let a = total_is_sum (length q.grid.now.nodes) q.live_weights.now ready.live_each in let b = ready.live_bound in omega arith
-
-  -- before the first node
-  pub weights_added : (order : List NodeId) (live dark : List ℕ) → order ≡ q.traversal.now.order → live ≡ q.dark_weights.now → dark ≡ q.live_weights.now
-      → AreAdded (problem_in q) q.traversal.now (length order) (λ n. get_or live n 0) (λ n. get_or dark n 0)
-  weights_added order live dark is_order is_live is_dark =
-      subst (λ xs. AreAdded (problem_in q) q.traversal.now (length xs) (λ n. get_or live n 0) (λ n. get_or dark n 0)) (sym is_order)
-      (subst (λ xs. AreAdded (problem_in q) q.traversal.now (length q.traversal.now.order) (λ n. get_or xs n 0) (λ n. get_or dark n 0)) (sym is_live)
-      (subst (λ xs. AreAdded (problem_in q) q.traversal.now (length q.traversal.now.order) (λ n. get_or q.dark_weights.now n 0) (λ n. get_or xs n 0)) (sym is_dark)
-      (rows_none q.grid.now (λ d. get_or q.closed.now d false) (mark_at q.marks.now) (λ n. get_or q.dark_weights.now n 0) (λ n. get_or q.live_weights.now n 0) q.traversal.now ready.sound ready.traversed dark_small live_small)))
-
-  module _ (live dark : List ℕ) (order : List NodeId) (k i : ℕ) (is_order : order ≡ q.traversal.now.order) (l : k < length order) (is_i : i ≡ suc k)
-      (later : AreAdded (problem_in q) q.traversal.now i (λ n. get_or live n 0) (λ n. get_or dark n 0)) where
-    within : k < length q.traversal.now.order
-    within = subst (λ xs. k < length xs) is_order l
-
-    pub source_added : ◌≡◌ {A = Option Above} None (option_map (above_by q.grid.now (node_at order k)) (parent_in q.traversal.now.parents (node_at order k)))
-        → AreAdded (problem_in q) q.traversal.now k (λ n. get_or live n 0) (λ n. get_or dark n 0)
-    source_added e =
-        rows_same q.grid.now (λ d. get_or q.closed.now d false) (mark_at q.marks.now) (λ n. get_or q.dark_weights.now n 0) (λ n. get_or q.live_weights.now n 0) q.traversal.now ready.sound ready.traversed dark_small live_small
-        (λ n. get_or live n 0) (λ n. get_or dark n 0) k i (node_at order k) within is_i (ap (λ xs. node_at xs k) is_order) later e
-
-    pub node_added : (a : Above) (x y : ℕ) → length live ≡ length q.grid.now.nodes → length dark ≡ length q.grid.now.nodes
-        → Some a ≡ option_map (above_by q.grid.now (node_at order k)) (parent_in q.traversal.now.parents (node_at order k))
-        → x ≡ live_added (mark_at q.marks.now a.device.0) a.weight (get_or live (node_at order k) 0) (get_or dark (node_at order k) 0)
-        → y ≡ dark_added (mark_at q.marks.now a.device.0) a.weight (get_or dark (node_at order k) 0)
-        → AreAdded (problem_in q) q.traversal.now k (λ n. get_or (set live a.node.0 (get_or live a.node.0 0 + x)) n 0) (λ n. get_or (set dark a.node.0 (get_or dark a.node.0 0 + y)) n 0)
-    node_added a x y live_each dark_each e is_x is_y =
-        let here = node_within q.grid.now (λ d. get_or q.closed.now d false) (mark_at q.marks.now) (λ n. get_or q.dark_weights.now n 0) (λ n. get_or q.live_weights.now n 0) q.traversal.now ready.sound ready.traversed dark_small live_small
-        (λ n. get_or live n 0) (λ n. get_or dark n 0) k i (node_at order k) within is_i (ap (λ xs. node_at xs k) is_order) later a e in
-        rows_more q.grid.now (λ d. get_or q.closed.now d false) (mark_at q.marks.now) (λ n. get_or q.dark_weights.now n 0) (λ n. get_or q.live_weights.now n 0) q.traversal.now ready.sound ready.traversed dark_small live_small
-        (λ n. get_or live n 0) (λ n. get_or dark n 0) k i (node_at order k) within is_i (ap (λ xs. node_at xs k) is_order) later a e _ _
-        (set_other live a.node.0 (get_or live a.node.0 0 + x)) (set_other dark a.node.0 (get_or dark a.node.0 0 + y))
-        (set_here live a.node.0 (get_or live a.node.0 0 + x) (omega arith) ∙ ap (λ z. get_or live a.node.0 0 + z) is_x)
-        (set_here dark a.node.0 (get_or dark a.node.0 0 + y) (omega arith) ∙ ap (λ z. get_or dark a.node.0 0 + z) is_y)
-
-  -- after the last one
-  pub all_added : (live dark : List ℕ) (i : ℕ) → i ≡ 0 → AreAdded (problem_in q) q.traversal.now i (λ n. get_or live n 0) (λ n. get_or dark n 0) → HasExactRows (problem_in q) (table_in q live dark)
-  all_added live dark i e all =
-      rows_exact q.grid.now (λ d. get_or q.closed.now d false) (mark_at q.marks.now) (λ n. get_or q.dark_weights.now n 0) (λ n. get_or q.live_weights.now n 0) q.traversal.now ready.sound ready.traversed dark_small live_small
-      (λ n. get_or live n 0) (λ n. get_or dark n 0) i e all

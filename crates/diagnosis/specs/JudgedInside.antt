@@ -1,27 +1,19 @@
 -- What a contract sees of a judgement that is kept in flat vectors.
 use Rattle.std.specs.Prelude.{◌≡◌, ◌<◌, ◌≤◌, ◌^◌, length, take}
 use Rattle.diagnosis.specs.declared.judged.Judged.TheInside.{Inside}
-use Rattle.diagnosis.specs.Judgement.{Judgement, IsSized}
+use Rattle.diagnosis.specs.Judgement.{Judgement}
 
 -- the lists, and the flips and changes that are counted
 abbrev pub judgement_of : Inside → Judgement
 judgement_of j = record {
   opened = j.opened.items;
   dark = j.dark.items;
-  live_costs = j.live_costs.items;
-  dark_costs = j.dark_costs.items;
-  parents = j.traversal.parents;
-  depths = j.traversal.depths;
-  closed = j.closed.items;
-  order = j.traversal.order;
-  cost = j.cost;
   flipped = take j.flipped_count j.flipped.items;
   changed = take j.changed_count j.changed.items;
 }
 
 -- all vectors have one entry a node, or one a device
 pub record IsWholeInside (j : Inside) : Type 0 where
-  pub sized : IsSized (length j.dark.items) (length j.opened.items) (judgement_of j)
   pub opened_before : length j.opened_before.items ≡ length j.opened.items
   pub dark_before : length j.dark_before.items ≡ length j.dark.items
   pub flipped : length j.flipped.items ≡ length j.dark.items

@@ -1,27 +1,22 @@
-//! The judgement of a network: which devices are taken for opened, which nodes are dark, and what that costs.
+//! The judgement of a network: which devices are taken for opened, and which nodes are dark.
 ghost use Rattle.std.specs.Prelude.{◌≡◌};
 
+use crate::flags::flag_all;
+use crate::laws::judged_tells_diagnosis;
 use crate::lists::{list_changed, list_flipped};
-use crate::passes::Posed;
-use crate::walks::{follow, starting_states, starting_traversal};
-use grid_model::{DeviceId, Grid, Mark, NodeId};
-use radial_forest::Traversal;
+use grid_model::{DeviceId, Grid, NodeId};
 use std::alloc::{AllocError, Global};
-use std::marker::Model;
+use std::marker::{Brand, Model};
+use std::sync::ledger::{Blank, Ledger};
+use subtree_costs::{CostForest, Steps};
 
-/// The diagnosis of the last recompute, by number: opened devices, dark nodes and the costs of the
-/// parts below the nodes.
+/// The diagnosis of the last recompute, by number: opened devices and dark nodes.
 #[derive(Drop)]
 pub struct Judged {
     opened: Vec<bool>,
     opened_before: Vec<bool>,
     dark: Vec<bool>,
     dark_before: Vec<bool>,
-    live_costs: Vec<u64>,
-    dark_costs: Vec<u64>,
-    closed: Vec<bool>,
-    traversal: Traversal,
-    cost: u64,
     flipped: Vec<NodeId>,
     flipped_count: usize,
     changed: Vec<DeviceId>,
@@ -41,160 +36,74 @@ impl Model for Judged {
 }
 
 impl Judged {
-    ghost use Rattle.std.specs.Prelude.{◌≡◌, ◌≤◌, ◌<◌, ℕ, true, false, [], length, map, sum, slice_index, slice_index_or, IfOk};
-    ghost use Rattle.outage_rules.specs.Diagnosis.{IsDiagnosis, cost};
-    ghost use Rattle.outage_rules.specs.Network.{IsRadial};
-    ghost use Rattle.outage_rules.specs.Laws.{IsWithin};
-    ghost use Rattle.grid_model.specs.Network.{network_in, problem_with};
-    ghost use Rattle.grid_model.specs.Problem.{says_opened, mark_at, problem_of};
-    ghost use Rattle.radial_forest.specs.Traversed.{parent_in, depth_in};
-    ghost use Rattle.diagnosis.specs.Judgement.{IsOfNetwork, IsSized, IsJudged, TellsDark, TellsDepths, TellsParents, TellsCosts, opened_by, is_dark_by, differences, flagged};
+    ghost use Rattle.std.specs.Prelude.{◌≡◌, ◌≤◌, ◌<◌, ◌+◌, [], length, map, IfOk};
+    ghost use Rattle.subtree_costs.specs.Costed.{IsCosted, problem_in};
+    ghost use Rattle.diagnosis.specs.Judgement.{IsSized, IsJudged, TellsDiagnosis, opened_by, is_dark_by, differences, flagged};
 
-    /// As after a recompute over the starting states without marks and weights: nothing is opened,
-    /// and nothing flipped or changed. An error says that memory ran out.
-    pub fn new(alloc: Global, grid: &Grid) -> Result<Judged, AllocError>
-        ensures own { IfOk result (IsOfNetwork grid.now) }
-        ensures judged { IfOk result (λ judged. IsJudged (problem_with grid.now (λ n. 0)) judged) }
-        ensures diagnosis { IfOk result (λ judged. IsDiagnosis (problem_with grid.now (λ n. 0)) (opened_by judged)) }
-        ensures within { IfOk result (λ judged. IsWithin (problem_with grid.now (λ n. 0)) (opened_by judged)) }
-        ensures cost { IfOk result (λ judged. judged.cost ≡ cost (problem_with grid.now (λ n. 0)) (opened_by judged)) }
-        ensures dark { IfOk result (TellsDark (problem_with grid.now (λ n. 0))) }
-        ensures depths { IfOk result (TellsDepths (problem_with grid.now (λ n. 0))) }
-        ensures parents { IfOk result (TellsParents (problem_with grid.now (λ n. 0))) }
-        ensures costs { IfOk result (TellsCosts (problem_with grid.now (λ n. 0))) }
+    /// The diagnosis of the states, marks and weights that the costs stand for; nothing has flipped
+    /// or changed. An error says that memory ran out.
+    pub fn new(alloc: Global, grid: &Grid, costs: &CostForest) -> Result<Judged, AllocError>
+        requires costed { IsCosted grid.now costs.now }
+        ensures judged { IfOk result (IsJudged grid.now costs.now) }
+        ensures diagnosis { IfOk result (TellsDiagnosis (problem_in grid.now costs.now)) }
         ensures flipped { IfOk result (λ judged. judged.flipped ≡ []) }
         ensures changed { IfOk result (λ judged. judged.changed ≡ []) }
     {
         let nodes = grid.nodes() as usize;
         let devices = grid.devices() as usize;
-        let closed = starting_states(alloc, grid)?;
-        let marks = vec![in alloc; Mark::Nothing; devices]?;
-        let weights = vec![in alloc; 0; nodes]?;
         let mut judged = Judged {
             opened: vec![in alloc; false; devices]?,
             opened_before: vec![in alloc; false; devices]?,
             dark: vec![in alloc; false; nodes]?,
             dark_before: vec![in alloc; false; nodes]?,
-            live_costs: vec![in alloc; 0; nodes]?,
-            dark_costs: vec![in alloc; 0; nodes]?,
-            closed: starting_states(alloc, grid)?,
-            traversal: starting_traversal(alloc, grid)?,
-            cost: 0,
             flipped: vec![in alloc; NodeId(0); nodes]?,
             flipped_count: 0,
             changed: vec![in alloc; DeviceId(0); devices]?,
             changed_count: 0,
         };
-        judged.recompute(grid, &closed, &marks, &weights, &weights);
-        judged.flipped_count = 0;
-        judged.changed_count = 0;
+        judged.judge::<Brand>(grid, costs, Blank::new(1));
         Ok(judged)
     }
 
-    /// Judges the network anew, which is the one of the first judgement: one state and one mark a
-    /// device, one dark and one live weight a node. The closed devices close no loop, and only closed
-    /// devices are marked. Takes no memory, and walks over the network only where another device is
-    /// closed than before.
-    pub fn recompute(
-        &mut self,
-        grid: &Grid,
-        closed: &[bool],
-        marks: &[Mark],
-        dark: &[u64],
-        live: &[u64],
-    )
-        requires own { IsOfNetwork grid.now self.old }
+    // Judges for the first time, and counts no steps for anyone.
+    fn judge<L: Ledger>(&mut self, grid: &Grid, costs: &CostForest, blank: Blank)
+        requires name { blank.name ≡ L.name }
+        requires parts { blank.parts ≡ L.parts }
+        requires some { 0 < blank.parts }
+        requires costed { IsCosted grid.now costs.now }
         requires sized { IsSized (length grid.now.nodes) (length grid.now.devices) self.old }
-        requires states { length closed.now ≡ length grid.now.devices }
-        requires radial { IsRadial (network_in grid.now (λ d. slice_index_or closed.now d false)) }
-        requires marks { length marks.now ≡ length grid.now.devices }
-        requires marked { (d : ℕ) → says_opened (mark_at marks.now d) ≡ true → slice_index_or closed.now d false ≡ true }
-        requires dark_weights { length dark.now ≡ length grid.now.nodes }
-        requires live_weights { length live.now ≡ length grid.now.nodes }
-        requires dark_bound { sum dark.now ≤ 1_000_000_000_000 }
-        requires live_bound { sum live.now ≤ 1_000_000_000_000 }
+        ensures judged { IsJudged grid.now costs.now self.new }
+        ensures diagnosis { TellsDiagnosis (problem_in grid.now costs.now) self.new }
+        ensures flipped { self.new.flipped ≡ [] }
+        ensures changed { self.new.changed ≡ [] }
+    {
+        let mut steps = Steps::<L>::new(blank);
+        self.recompute(grid, costs, &mut steps);
+        self.flipped_count = 0;
+        self.changed_count = 0;
+    }
 
-        ensures own { IsOfNetwork grid.now self.new }
-        ensures judged { IsJudged (problem_of grid.now closed.now marks.now dark.now live.now) self.new }
-        ensures diagnosis { IsDiagnosis (problem_of grid.now closed.now marks.now dark.now live.now) (opened_by self.new) }
-        ensures within { IsWithin (problem_of grid.now closed.now marks.now dark.now live.now) (opened_by self.new) }
-        ensures cost { self.new.cost ≡ cost (problem_of grid.now closed.now marks.now dark.now live.now) (opened_by self.new) }
-        ensures dark { TellsDark (problem_of grid.now closed.now marks.now dark.now live.now) self.new }
-        ensures depths { TellsDepths (problem_of grid.now closed.now marks.now dark.now live.now) self.new }
-        ensures parents { TellsParents (problem_of grid.now closed.now marks.now dark.now live.now) self.new }
-        ensures costs { TellsCosts (problem_of grid.now closed.now marks.now dark.now live.now) self.new }
+    /// Judges the network anew by the rows: one walk over all nodes, from the roots of its trees, in
+    /// at most one step a node. Takes no memory.
+    pub fn recompute<L: Ledger>(&mut self, grid: &Grid, costs: &CostForest, steps: &mut Steps<L>)
+        requires costed { IsCosted grid.now costs.now }
+        requires sized { IsSized (length grid.now.nodes) (length grid.now.devices) self.old }
+
+        ensures judged { IsJudged grid.now costs.now self.new }
+        ensures diagnosis { TellsDiagnosis (problem_in grid.now costs.now) self.new }
 
         // What differs from before.
         ensures flipped { map (λ n. n.0) self.new.flipped ≡ differences self.old.dark self.new.dark }
         ensures changed { map (λ d. d.0) self.new.changed ≡ differences self.old.opened self.new.opened }
+
+        ensures steps { steps.new ≤ steps.old + length grid.now.nodes }
     {
-        let nodes = grid.nodes() as usize;
-        prove!(self.dark.len() == nodes);
+        judged_tells_diagnosis();
         self.opened_before.copy_from_slice(&self.opened);
         self.dark_before.copy_from_slice(&self.dark);
-        follow(&mut self.traversal, &mut self.closed, grid, closed);
-        let posed = Posed {
-            grid,
-            closed,
-            marks,
-            dark_weights: dark,
-            live_weights: live,
-            traversal: &self.traversal,
-        };
-        self.cost = posed.judge(
-            &mut self.live_costs,
-            &mut self.dark_costs,
-            &mut self.opened,
-            &mut self.dark,
-        );
+        flag_all(grid, costs, &mut self.opened, &mut self.dark, steps);
         self.flipped_count = list_flipped(&self.dark_before, &self.dark, &mut self.flipped);
         self.changed_count = list_changed(&self.opened_before, &self.opened, &mut self.changed);
-    }
-
-    /// What the opened devices cost: their weights, and the reports that they leave unexplained.
-    pub fn cost(&self) -> u64
-        ensures { result ≡ self.now.cost }
-    {
-        self.cost
-    }
-
-    /// The device from which a node hangs: none for a source, and for a node that isn't fed.
-    pub fn parent(&self, n: NodeId) -> Option<DeviceId>
-        requires { n.0 < length self.now.dark }
-        ensures { result ≡ parent_in self.now.parents n.0 }
-    {
-        self.traversal.parent(n)
-    }
-
-    /// The fed nodes, each after the one that it hangs from.
-    pub fn order(&self) -> &[NodeId]
-        ensures { result.now ≡ self.now.order }
-    {
-        self.traversal.order()
-    }
-
-    /// How many devices are between a node and its source: none for a node that isn't fed.
-    pub fn depth(&self, n: NodeId) -> Option<u32>
-        requires { n.0 < length self.now.dark }
-        ensures { result ≡ depth_in self.now.depths n.0 }
-    {
-        self.traversal.depth(n)
-    }
-
-    /// The least cost of the part at and below a fed node, where the node is live.
-    pub fn live_of(&self, n: NodeId) -> u64
-        requires { n.0 < length self.now.dark }
-        ensures { result ≡ slice_index self.now.live_costs n.0 }
-    {
-        self.live_costs[n.0 as usize]
-    }
-
-    /// The cost of the part at and below a fed node, where the node is dark.
-    pub fn dark_of(&self, n: NodeId) -> u64
-        requires { n.0 < length self.now.dark }
-        ensures { result ≡ slice_index self.now.dark_costs n.0 }
-    {
-        self.dark_costs[n.0 as usize]
     }
 
     /// Whether a device is taken for opened.

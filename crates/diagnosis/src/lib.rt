@@ -1,15 +1,14 @@
-//! The least cost of a network's reports and the devices that it takes for opened, by sums from the leaves up.
+//! Which devices are taken for opened, by the least costs of the parts of a network: the one cautious diagnosis.
 #![tactic(auto)]
 
 mod above;
+mod flags;
 mod judged;
+mod laws;
 mod lists;
-mod passes;
 mod sums;
 mod walks;
 
 pub use judged::Judged;
+pub use laws::judged_tells_diagnosis;
 pub use sums::least;
-
-#[cfg(test)]
-mod tests;

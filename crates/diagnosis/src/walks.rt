@@ -1,11 +1,9 @@
-//! Walks over a network: in its starting state, and after a switching.
+//! The walk over a network in its starting state.
 ghost use Rattle.std.specs.Prelude.{◌≡◌, ℕ, false, length, vec_len, slice_index_or, IfOk};
-ghost use Rattle.outage_rules.specs.Network.{IsRadial};
-ghost use Rattle.outage_rules.specs.Certificate.{IsForest};
 ghost use Rattle.grid_model.specs.Places.{device_at};
-ghost use Rattle.grid_model.specs.Network.{network_in, network_of};
+ghost use Rattle.grid_model.specs.Network.{network_of};
 ghost use Rattle.grid_model.specs.Sound.{IsSoundParts};
-ghost use Rattle.radial_forest.specs.Traversed.{table_of, IsTraversed};
+ghost use Rattle.radial_forest.specs.Traversed.{IsTraversed};
 
 use grid_model::{DeviceId, Grid};
 use radial_forest::Traversal;
@@ -33,21 +31,4 @@ pub(crate) fn starting_traversal(alloc: Global, grid: &Grid) -> Result<Traversal
     let mut traversal = Traversal::new(alloc, grid)?;
     traversal.walk(grid, &closed);
     Ok(traversal)
-}
-
-// Walks anew where another device is closed than at the last walk.
-pub(crate) fn follow(traversal: &mut Traversal, walked: &mut [bool], grid: &Grid, closed: &[bool])
-    requires sound { IsSoundParts grid.now }
-    requires room { length walked.old ≡ length closed.now }
-    requires states { length closed.now ≡ length grid.now.devices }
-    requires radial { IsRadial (network_in grid.now (λ d. slice_index_or closed.now d false)) }
-    requires traversed { IsTraversed (network_in grid.now (λ d. slice_index_or walked.old d false)) traversal.old }
-    ensures walked { walked.new ≡ closed.now }
-    ensures traversed { IsTraversed (network_in grid.now (λ d. slice_index_or closed.now d false)) traversal.new }
-    ensures forest { IsForest (network_in grid.now (λ d. slice_index_or closed.now d false)) (table_of traversal.new) }
-{
-    if *walked != *closed {
-        traversal.walk(grid, closed);
-        walked.copy_from_slice(closed);
-    }
 }

@@ -12,9 +12,6 @@ use grid_model::Stamp;
 use std::alloc::{AllocError, Global};
 use std::marker::Model;
 
-#[cfg(test)]
-mod tests;
-
 /// A time for some of the keys below a capacity. In contracts it is the list of the times by key,
 /// none where the key has none.
 #[derive(Drop)]

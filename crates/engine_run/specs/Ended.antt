@@ -1,5 +1,5 @@
 -- How a run ends: what each status says of the files, and of what was written.
-use Rattle.std.specs.Prelude.{◌≡◌, ◌⊎◌, ⊤, ℕ, List, [], Option, None, Some}
+use Rattle.std.specs.Prelude.{◌≡◌, ◌⊎◌, ⊤, ℕ, List, Option, None, Some}
 use Rattle.grid_model.specs.Parts.{Parts}
 use Rattle.outage_engine.specs.Engined.{Engined}
 use Rattle.outage_ports.specs.Bytes.{Files}
@@ -9,7 +9,7 @@ use Rattle.event_run.specs.Reading.{ReadsAll}
 use Rattle.event_run.specs.declared.reading.EventsStop.{EventsStop}
 use Rattle.event_run.specs.declared.reading.EventsStop.TheVariants.{ReadFailed, WriteFailed, TooManyLines, TooManyBytes}
 use Rattle.event_run.specs.declared.reading.EventsStop.TheVariants as ends
-use Rattle.run_rules.specs.Run.{Did, Found, DidPart, Leaves, places_in, RefusesReport, IsOver, Cuts}
+use Rattle.run_rules.specs.Run.{Did, Found, DidPart, Leaves, RefusesNetwork, RefusesReport, IsOver, Cuts}
 use Rattle.run_rules.specs.declared.status.Status.{Status}
 use Rattle.run_rules.specs.declared.status.Status.TheVariants.{Done, Invalid, Usage, ReadFault, WriteFault, NetworkRefused, ReportRefused, Limit, Memory}
 use Rattle.run_rules.specs.declared.status.Which.TheVariants.{NetworkBytes, EventLines, EventBytes}
@@ -21,7 +21,7 @@ EndsAs files left before now command (Invalid rule) = Found files left before no
 EndsAs files left before now command Usage = ⊥
 EndsAs files left before now command ReadFault = Leaves files before now command
 EndsAs files left before now command WriteFault = DidPart files before now command
-EndsAs files left before now command (NetworkRefused line rule) = RefusesNetworkAt files (places_in command).net line rule
+EndsAs files left before now command (NetworkRefused line rule) = RefusesNetwork files command line rule
 EndsAs files left before now command (ReportRefused line rule) = RefusesReport files command line rule
 EndsAs files left before now command (Limit which) = IsOver files command which × Cuts files before now command which
 EndsAs files left before now command Memory = (now ≡ before) ⊎ DidPart files before now command

@@ -51,8 +51,8 @@ fn read_network<S: Shelf>(alloc: Global, name: &str, shelf: &mut S) -> Result<Gr
     }
 }
 
-// The status of a run that stops before the end of the events.
-fn status_by(stop: EventsStop) -> Status
+/// The status of a run that stops before the end of the events.
+pub fn status_by(stop: EventsStop) -> Status
     ensures { result ≡ status_of_stop stop }
 {
     match stop {

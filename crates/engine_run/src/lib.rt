@@ -2,5 +2,7 @@
 #![tactic(auto)]
 
 mod engine;
+mod nowhere;
 
-pub use engine::{Ran, run_engine};
+pub use engine::{Ran, run_engine, status_by};
+pub use nowhere::Nowhere;

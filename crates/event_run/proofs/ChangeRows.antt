@@ -14,7 +14,7 @@ use Rattle.grid_model.specs.declared.parts.DeviceId.{DeviceId}
 use Rattle.grid_model.specs.declared.history.Event.{Event}
 use Rattle.grid_model.specs.declared.history.Refusal.{Refusal}
 use Rattle.event_rules.specs.Rows.{row}
-use Rattle.history_rules.specs.Posed.{problem_after, least_after, diagnosis_after, refusal_of, joined, joined_by}
+use Rattle.history_rules.specs.Posed.{least_after, diagnosis_after, refusal_of, joined, joined_by}
 use Rattle.history_rules.specs.Run.{Unapplied, outcome_by}
 use Rattle.history_rules.specs.Output.{cost_row, change_rows, changes, refused_row, entry}
 use Rattle.diagnosis.specs.Judgement.{Judgement, opened_by, differ, differences}
@@ -79,7 +79,6 @@ module _ (g : Parts) (word : List ℕ) (line : ℕ) (j : Judgement) (before : Li
 
 -- the judgement has a flag for each device
 pub opened_each : (h : List Event) (e : Engined) → IsEngineAfter h e → length e.judged.opened ≡ length e.grid.devices
-unfolding problem_after
 opened_each h e after = after.judged.sized.opened
 
 module _ (g : Parts) (before after : List Event) (line : ℕ) (old new : Engined) (was : IsEngineAfter before old) (is : IsEngineAfter after new) (old_grid : old.grid ≡ g) (new_grid : new.grid ≡ g) where

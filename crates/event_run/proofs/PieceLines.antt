@@ -1,7 +1,7 @@
 -- The lines that end in more bytes.
-use Rattle.std.proofs.Common.{◌≡◌, ℕ, ◌+◌, ◌<◌, ◌≤◌, Bool, true, false, cond, refl, sym, ap, ◌∙◌, subst, arith, List, [], ◌∷◌, ◌++◌, length, get_or, take, drop, append_assoc, append-nil}
+use Rattle.std.proofs.Common.{◌≡◌, ℕ, ◌+◌, ◌≤◌, Bool, true, false, cond, refl, sym, ap, ◌∙◌, arith, List, [], ◌∷◌, ◌++◌, length, append_assoc}
 use Rattle.std.specs.Prelude.{◌==◌}
-use Rattle.std.proofs.lemmas.List.{length-append, take_more, take-append-drop}
+use Rattle.std.proofs.lemmas.List.{length-append}
 use Rattle.event_rules.specs.Lines.{lines}
 use Rattle.line_text.specs.LineEnds.{without_cr}
 use Rattle.line_text.specs.Cutting.{IsAtPart, line_ended, part_with, last_line, lines_from, ended_from, part_from}

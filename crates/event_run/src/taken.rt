@@ -1,5 +1,5 @@
 //! The lines that a run has taken.
-ghost use Rattle.std.specs.Prelude.{◌≡◌, ◌≢◌, ◌≤◌, ◌<◌, ◌+◌, ◌++◌, ◌∷◌, [], ℕ, List, length, Err, OnOk, IsErrOf};
+ghost use Rattle.std.specs.Prelude.{◌≡◌, ◌≢◌, ◌≤◌, ◌<◌, ◌+◌, ◌^◌, ◌++◌, ◌∷◌, [], ℕ, List, length, map, Ok, Err, OnOk, IsErrOf};
 ghost use Rattle.grid_model.specs.declared.history.Event.{Event};
 ghost use Rattle.line_text.specs.BlockReading.{AreLeft};
 ghost use Rattle.event_reader.specs.Reading.{IsReading};
@@ -8,18 +8,23 @@ ghost use Rattle.history_rules.specs.Posed.{IsOfGrid, refusal_of, joined};
 ghost use Rattle.history_rules.specs.Run.{outcome_by};
 ghost use Rattle.history_rules.specs.Output.{entry, refused_row};
 ghost use Rattle.history_rules.specs.Report.{refused_in};
-ghost use Rattle.outage_engine.specs.Engined.{Engined, IsEngineAfter, IsEngine};
+ghost use Rattle.diagnosis.specs.Judgement.{differences};
+ghost use Rattle.outage_engine.specs.declared.Applied.{Applied};
+ghost use Rattle.outage_engine.specs.Engined.{Engined, IsEngineAfter, IsEngine, answer_by};
 ghost use Rattle.report_text.specs.Entered.{rule_of};
 ghost use Rattle.event_run.specs.Pieces.{HasTaken, HasTakenSome, IsOneTooMany, HasMet};
 
 use crate::unread::rule_in;
 use event_reader::{ReadRefusal, next_event};
-use grid_model::Event;
+use grid_model::{Event, Refusal};
 use history_rules::{refused_are_the_rest, run_of_parts};
 use line_text::BlockReader;
-use outage_engine::Engine;
+use outage_engine::{Applied, Engine};
 use report_text::{LineRule, put_changes, put_refused};
 use std::alloc::{AllocError, Global};
+use std::marker::Brand;
+use std::sync::ledger::{Blank, Ledger};
+use subtree_costs::Steps;
 
 /// The greatest number of event lines that aren't skipped.
 pub(crate) const MOST_EVENT_LINES: u32 = 2_000_000;
@@ -50,6 +55,30 @@ pub(crate) struct Taken {
     pub(crate) number: u32,
     pub(crate) counted: u32,
     pub(crate) entries: Vec<u8>,
+}
+
+// Applies an event with a counter of its own.
+fn apply_event<L: Ledger>(
+    engine: &mut Engine,
+    event: Event,
+    blank: Blank,
+) -> Result<Applied, Refusal>
+    requires name { blank.name ≡ L.name }
+    requires parts { blank.parts ≡ L.parts }
+    requires some { 0 < blank.parts }
+    requires engine { IsEngine engine.old }
+    requires of_grid { IsOfGrid engine.old.grid event.what }
+    requires range { event.time.0 ≤ 253_402_300_799 }
+    requires room { engine.old.field.applied < 2 ^ 32 }
+    requires spare { length engine.old.grid.meters ≤ engine.old.ledger.spare }
+    ensures grid { engine.new.grid ≡ engine.old.grid }
+    ensures answer { (h : List Event) → IsEngineAfter h engine.old → result ≡ answer_by engine.old.grid h event (refusal_of engine.old.grid h event) }
+    ensures after { (h : List Event) → IsEngineAfter h engine.old → IsEngineAfter (joined engine.old.grid h event) engine.new }
+    ensures engine { IsEngine engine.new }
+    ensures changed { (applied : Applied) → result ≡ Ok applied → map (λ d. d.0) engine.new.judged.changed ≡ differences engine.old.judged.opened engine.new.judged.opened }
+{
+    let mut steps = Steps::<L>::new(blank);
+    engine.apply(event, &mut steps)
 }
 
 impl Taken {
@@ -131,7 +160,7 @@ impl Taken {
         self.count()?;
         let number = self.number;
         engine.reserve()?;
-        match engine.apply(event) {
+        match apply_event::<Brand>(engine, event, Blank::new(1)) {
             Ok(applied) => {
                 let (grid, judged) = (engine.grid(), engine.judged());
                 put_changes(&mut self.entries, number, grid, judged, applied)?;

@@ -10,9 +10,6 @@ use grid_model::Stamp;
 pub use reports::Evidence;
 pub use slot::Sign;
 
-#[cfg(test)]
-mod tests;
-
 /// What the reports of a meter weigh.
 #[derive(Clone, Copy, Debug, PartialEq, Eq)]
 pub struct Pull {

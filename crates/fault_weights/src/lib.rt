@@ -8,9 +8,6 @@ ghost use Rattle.fault_weights.specs.Laws.{RateWeightIsLeast, OneLeastDoubling, 
 
 use grid_model::Kind;
 
-#[cfg(test)]
-mod tests;
-
 /// The hours over which the failures of a rate are counted.
 const RATE_HOURS: u64 = 1_000_000_000;
 

@@ -30,7 +30,7 @@ use Rattle.field_state.proofs.Later.{IsLater, none_is_later, end_is_later, end_b
 pub ready_at : (g : Parts) (h : List Event) (t : ℕ) (f : Fielded) → IsFieldAt g h t f → IsReady g t f
 ready_at g h t f at =
     let k = at.kept in
-    record { sound = k.sound; tallied = tallied_of g h t f k; forest = k.forest; marks_each = k.marks_each }
+    record { sound = k.sound; costed = k.costed; tallied = tallied_of g h t f k; forest = k.forest; marks_each = k.marks_each }
 
 -- a mark that the event sets is of its time, and another one is as it was
 module _ (g : Parts) (h : List Event) (e : Event) (old new : Fielded) (done : IsDone g e old new) (d : ℕ) (ld : d < length g.devices)
@@ -155,6 +155,7 @@ module _ (g : Parts) (h : List Event) (e : Event) (old new : Fielded) (at : IsFi
     sound = at.kept.sound;
     history = (of_grid, none, at.kept.history);
     later = omega arith;
+    costed = done.costed;
     forest = done.forest;
     closed = λ d. done.closed d ∙ ap (closed_by e.what d) (at.kept.closed d);
     marks_each = done.marks_each ∙ at.kept.marks_each;

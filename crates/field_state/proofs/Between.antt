@@ -72,6 +72,7 @@ module _ (g : Parts) (h : List Event) (f : Fielded) where
       history = at.kept.history;
       time = time;
       count = count;
+      costed = at.kept.costed;
       forest = at.kept.forest;
       closed = at.kept.closed;
       marks_each = at.kept.marks_each;
@@ -98,6 +99,7 @@ field_kept g h f after = record {
   sound = after.sound;
   history = after.history;
   later = omega arith;
+  costed = after.costed;
   forest = after.forest;
   closed = after.closed;
   marks_each = after.marks_each;

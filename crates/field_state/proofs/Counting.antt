@@ -16,6 +16,7 @@ at_counted g h t f clock count at =
         sound = k.sound;
         history = k.history;
         later = k.later;
+        costed = k.costed;
         forest = k.forest;
         closed = k.closed;
         marks_each = k.marks_each;

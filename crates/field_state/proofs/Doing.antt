@@ -11,6 +11,7 @@ use Rattle.grid_model.specs.declared.history.Stamp.{Stamp}
 use Rattle.grid_model.specs.declared.history.What.{What}
 use Rattle.grid_model.specs.declared.history.What.TheVariants.{Call, Gasp, PingDown, PingUp, Powerup, Confirm, Restore, Order, Clock}
 use Rattle.radial_forest.specs.Forested.{IsForestOf}
+use Rattle.subtree_costs.specs.Costed.{IsCosted}
 use Rattle.history_rules.specs.State.{is_wanted_closed, closed_by}
 use Rattle.history_rules.specs.Slots.{Slots, end_after, due_in}
 use Rattle.evidence.specs.Kept.{Kept, kept_of, keeping}
@@ -26,7 +27,8 @@ module _ (g : Parts) (m t : ℕ) (slots : Slots) (old new : Fielded) (kept : ℕ
     (weighed : IsWeighed g new.evidence new.dark new.live)
     (due : new.due ≡ slice_set old.due m (due_in g m t slots))
     (one : record { slots = slots; at = t } ≡ kept m)
-    (others : (k : ℕ) → k ≢ m → kept_of old.evidence k ≡ kept k) where
+    (others : (k : ℕ) → k ≢ m → kept_of old.evidence k ≡ kept k)
+    (costed : IsCosted g new.costs) where
   each_again : (k : ℕ) → k < length g.meters → kept_of new.evidence k ≡ kept k
   each_again k lk =
       ⊎_elim
@@ -41,6 +43,7 @@ module _ (g : Parts) (m t : ℕ) (slots : Slots) (old new : Fielded) (kept : ℕ
   kept_by now applied forest marks = record {
     now = now;
     applied = applied;
+    costed = costed;
     forest = forest;
     marks = marks;
     tallied = tallied_after g m t slots old new (tallied_but g m t old ready.tallied) lm evidence weighed due;
@@ -56,6 +59,7 @@ pub kept_then : (g : Parts) (t : ℕ) (first second both : ℕ → Kept) (a b c 
 kept_then g t first second both a b c x y same = record {
   now = y.now ∙ x.now;
   applied = y.applied ∙ x.applied;
+  costed = y.costed;
   forest = y.forest ∙ x.forest;
   marks = y.marks ∙ x.marks;
   tallied = y.tallied;
@@ -63,10 +67,11 @@ kept_then g t first second both a b c x y same = record {
   due_devices = λ d. y.due_devices d ∙ x.due_devices d;
 }
 
-pub kept_still : (g : Parts) (t : ℕ) (f : Fielded) → IsTallied g t f → IsKeptBy g t (kept_of f.evidence) f f
-kept_still g t f tallied = record {
+pub kept_still : (g : Parts) (t : ℕ) (f : Fielded) → IsCosted g f.costs → IsTallied g t f → IsKeptBy g t (kept_of f.evidence) f f
+kept_still g t f costed tallied = record {
   now = refl;
   applied = refl;
+  costed = costed;
   forest = refl;
   marks = refl;
   tallied = tallied;
@@ -78,6 +83,7 @@ kept_still g t f tallied = record {
 pub ready_again : (g : Parts) (t : ℕ) (kept : ℕ → Kept) (old new : Fielded) → IsReady g t old → IsKeptBy g t kept old new → IsReady g t new
 ready_again g t kept old new ready by = record {
   sound = ready.sound;
+  costed = by.costed;
   tallied = by.tallied;
   forest = subst (λ f. IsForestOf g f.closed f) (sym by.forest) ready.forest;
   marks_each = ap length by.marks ∙ ready.marks_each;
@@ -109,6 +115,7 @@ pub done_by_report : (g : Parts) (e : Event) (old new : Fielded) → IsReady g e
 done_by_report g e old new ready unnamed unbrought by = record {
   now = by.now;
   applied = by.applied;
+  costed = by.costed;
   tallied = by.tallied;
   forest = subst (λ f. IsForestOf g f.closed f) (sym by.forest) ready.forest;
   closed = λ d. ap (λ f. slice_index_or f.closed d false) by.forest ∙ sym (closed_stays e.what d (slice_index_or old.forest.closed d false) (unnamed d));
@@ -120,4 +127,4 @@ done_by_report g e old new ready unnamed unbrought by = record {
 
 -- time alone does nothing where nothing is due
 pub clock_done : (g : Parts) (t : Stamp) (f : Fielded) → IsReady g t.0 f → IsDone g (record { time = t; what = Clock }) f f
-clock_done g t f ready = done_by_report g (record { time = t; what = Clock }) f f ready (λ d. refl) (λ m. refl) (kept_still g t.0 f ready.tallied)
+clock_done g t f ready = done_by_report g (record { time = t; what = Clock }) f f ready (λ d. refl) (λ m. refl) (kept_still g t.0 f ready.costed ready.tallied)

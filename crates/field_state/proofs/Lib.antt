@@ -15,7 +15,6 @@ pub mod Resting
 pub mod Restoring
 pub mod Reweighed
 pub mod Ruling
-pub mod SmallGrid
 pub mod Standing
 pub mod Starting
 pub mod Taken

@@ -1,6 +1,6 @@
 -- What is done to a device is done as the event says.
 use Rattle.std.proofs.Common.{◌≡◌, ◌≢◌, ℕ, ◌+◌, ◌<◌, ◌≤◌, Bool, true, false, refl, ap, ◌∙◌, sym, subst, arith, length, ⊎_elim, get_or-set_same, get_or-set_other, length-set}
-use Rattle.std.specs.Prelude.{◌==◌, nat_lt, slice_index_or, slice_set, Option, None, if◌then◌else◌}
+use Rattle.std.specs.Prelude.{◌==◌, nat_lt, slice_index_or, Option, None, if◌then◌else◌}
 use Rattle.std.proofs.lemmas.Bool.{cases_eq, eq-eqb, ne_eqb}
 use Rattle.grid_model.specs.Parts.{Parts}
 use Rattle.grid_model.specs.Places.{setting_of}
@@ -20,26 +20,11 @@ use Rattle.history_rules.specs.Slots.{end_after, due_in}
 use Rattle.evidence.specs.Kept.{Kept, IsEvidenceOf, kept_of}
 use Rattle.field_state.specs.Fielded.{Fielded, fine_end_by}
 use Rattle.field_state.specs.Weighed.{IsWeighed, IsTallied}
-use Rattle.field_state.specs.Acted.{kept_after, is_brought, IsReady, IsKeptBy, IsMarkedBy, IsDone, restored_if}
-use Rattle.field_state.proofs.Naming.{is_named, mark_stays, end_stays, end_is_set}
+use Rattle.field_state.specs.Acted.{kept_after, is_brought, IsReady, IsKeptBy, IsMarkedBy, IsTurned, IsDone, restored_if}
+use Rattle.subtree_costs.specs.Costed.{IsCosted}
+use Rattle.field_state.proofs.Naming.{is_named, mark_stays, end_stays}
 use Rattle.field_state.proofs.Restoring.{kept_same}
-
--- the sums follow what is kept as before
-pub tallied_marked : (g : Parts) (t d : ℕ) (mark : Mark) (end : Option ℕ) (old new : Fielded) → IsTallied g t old → IsMarkedBy g d mark end old new → IsTallied g t new
-tallied_marked g t d mark end old new tallied by = record {
-  evidence = subst (IsEvidenceOf g) (sym by.evidence) tallied.evidence;
-  earlier = λ m lm. subst (λ e. (kept_of e m).at ≤ t) (sym by.evidence) (tallied.earlier m lm);
-  weighed =
-      let a = subst (λ e. IsWeighed g e old.dark old.live) (sym by.evidence) tallied.weighed in
-      let b = subst (λ xs. IsWeighed g new.evidence xs old.live) (sym by.dark) a in
-      subst (IsWeighed g new.evidence new.dark) (sym by.live) b;
-  due_each = ap length by.due ∙ length-set old.due (length g.meters + d) end ∙ tallied.due_each;
-  due_meters = λ m lm.
-      ap (λ xs. slice_index_or xs m None) by.due
-      ∙ get_or-set_other old.due (length g.meters + d) m end None (λ q. absurd (let e : m ≡ length g.meters + d = q in omega arith))
-      ∙ tallied.due_meters m lm
-      ∙ sym (ap (λ e. due_in g m (kept_of e m).at (kept_of e m).slots) by.evidence);
-}
+use Rattle.field_state.proofs.Tallied.{tallied_marked}
 
 module _ (g : Parts) (e : Event) (x : ℕ) (mark : Mark) (end : Option ℕ) (old mid new : Fielded) (lx : x < length g.devices)
     (tallied : IsTallied g e.time.0 mid) (marks_each : length mid.marks ≡ length g.devices)
@@ -94,6 +79,7 @@ module _ (g : Parts) (e : Event) (x : ℕ) (mark : Mark) (end : Option ℕ) (old
   done_by_mark ready unturned kept = record {
     now = by.now ∙ kept.now;
     applied = by.applied ∙ kept.applied;
+    costed = by.costed;
     tallied = tallied_marked g e.time.0 x mark end mid new tallied by;
     forest = subst (λ f. IsForestOf g f.closed f) (sym (by.forest ∙ kept.forest)) ready.forest;
     closed = λ d. ap (λ f. slice_index_or f.closed d false) (by.forest ∙ kept.forest) ∙ sym (unturned d (slice_index_or old.forest.closed d false));
@@ -103,27 +89,14 @@ module _ (g : Parts) (e : Event) (x : ℕ) (mark : Mark) (end : Option ℕ) (old
     kept = λ m lm. ap (λ e. kept_of e m) by.evidence ∙ kept.each m lm;
   }
 
--- a mark that was set as one set it
-pub marked_by : (g : Parts) (d : ℕ) (mark : Mark) (end : Option ℕ) (old new : Fielded) →
-    new ≡ record old { marks = slice_set old.marks d mark; due = slice_set old.due (length g.meters + d) end } → IsMarkedBy g d mark end old new
-marked_by g d mark end old new q = record {
-  now = ap (λ f. f.now) q;
-  applied = ap (λ f. f.applied) q;
-  forest = ap (λ f. f.forest) q;
-  marks = ap (λ f. f.marks) q;
-  evidence = ap (λ f. f.evidence) q;
-  dark = ap (λ f. f.dark) q;
-  live = ap (λ f. f.live) q;
-  due = ap (λ f. f.due) q;
-}
-
 -- no report is told by what names a device, and brings nothing back
-pub untold_by_device : (g : Parts) (t : ℕ) (old : Fielded) (e : Event) → IsTallied g t old →
+pub untold_by_device : (g : Parts) (t : ℕ) (old : Fielded) (e : Event) → IsCosted g old.costs → IsTallied g t old →
     ((m : ℕ) (k : Kept) → k ≡ kept_after m e (is_brought g old.forest.closed m e.what) k) →
     IsKeptBy g t (λ m. kept_after m e (is_brought g old.forest.closed m e.what) (kept_of old.evidence m)) old old
-untold_by_device g t old e tallied untold = record {
+untold_by_device g t old e costed tallied untold = record {
   now = refl;
   applied = refl;
+  costed = costed;
   forest = refl;
   marks = refl;
   tallied = tallied;
@@ -137,17 +110,21 @@ named_alone x d ne = ne_eqb x d (λ q. ne (sym q))
 same_self : (x : ℕ) → (x == x) ≡ true
 same_self x = eq-eqb x x refl
 
-pub confirmed_done : (g : Parts) (t : Stamp) (x : DeviceId) (said : Confirmed) (old new : Fielded) → IsReady g t.0 old → x.0 < length g.devices →
-    IsMarkedBy g x.0 (mark_said said (nat_lt t.0 (t.0 + setting_of g OkHold))) (fine_end_by (Confirm x said) (end_after t.0 (t.0 + setting_of g OkHold)) x.0 None) old new →
-    IsDone g (record { time = t; what = Confirm x said }) old new
-confirmed_done g t x said old new ready lx by =
-    done_by_mark g (record { time = t; what = Confirm x said }) x.0 (mark_said said (nat_lt t.0 (t.0 + setting_of g OkHold)))
-    (fine_end_by (Confirm x said) (end_after t.0 (t.0 + setting_of g OkHold)) x.0 None) old old new lx ready.tallied ready.marks_each refl (λ d. refl) by
+pub confirmed_done : (g : Parts) (t : Stamp) (x : DeviceId) (said : Confirmed) (mark : Mark) (end : Option ℕ) (old new : Fielded) → IsReady g t.0 old → x.0 < length g.devices →
+    mark_said said (nat_lt t.0 (t.0 + setting_of g OkHold)) ≡ mark →
+    ((b : Option ℕ) → fine_end_by (Confirm x said) (end_after t.0 (t.0 + setting_of g OkHold)) x.0 b ≡ end) →
+    IsMarkedBy g x.0 mark end old new → IsDone g (record { time = t; what = Confirm x said }) old new
+confirmed_done g t x said mark end old new ready lx mark_is end_is by =
+    done_by_mark g (record { time = t; what = Confirm x said }) x.0 mark end old old new lx ready.tallied ready.marks_each refl (λ d. refl) by
     (λ d ne. named_alone x.0 d ne)
-    (λ b. ap (λ y. if y then mark_said said (nat_lt t.0 (t.0 + setting_of g OkHold)) else b) (same_self x.0))
-    (λ b. end_is_set (Confirm x said) (end_after t.0 (t.0 + setting_of g OkHold)) x.0 b None (same_self x.0))
+    (λ b. ap (λ y. if y then mark_said said (nat_lt t.0 (t.0 + setting_of g OkHold)) else b) (same_self x.0) ∙ mark_is)
+    end_is
     ready (λ d b. refl)
-    (untold_by_device g t.0 old (record { time = t; what = Confirm x said }) ready.tallied (λ m k. refl))
+    (untold_by_device g t.0 old (record { time = t; what = Confirm x said }) ready.costed ready.tallied (λ m k. refl))
+
+-- the end of a mark that is set
+pub end_is_this : (x : ℕ) (end b : Option ℕ) → (if x == x then end else b) ≡ end
+end_is_this x end b = ap (λ y. if y then end else b) (same_self x)
 
 -- a restoration's reports are those of the meters that it brings back
 restored_kept : (m : ℕ) (t : Stamp) (x : DeviceId) (b : Bool) (k : Kept) → restored_if b t.0 k ≡ kept_after m (record { time = t; what = Restore x }) b k
@@ -170,37 +147,41 @@ restored_done g t x old mid new ready lx kept by =
     (λ m lm. restored_kept m t x (is_brought g old.forest.closed m (Restore x)) (kept_of old.evidence m)))
 
 pub ordered_done : (g : Parts) (t : Stamp) (x : DeviceId) (w : Want) (old mid new : Fielded) → IsReady g t.0 old → x.0 < length g.devices →
-    mid ≡ record old { forest = mid.forest } → IsForestOf g mid.forest.closed mid.forest →
-    ((d : ℕ) → slice_index_or mid.forest.closed d false ≡ closed_by (Order x w) d (slice_index_or old.forest.closed d false)) →
-    IsMarkedBy g x.0 Nothing None mid new → IsDone g (record { time = t; what = Order x w }) old new
-ordered_done g t x w old mid new ready lx turned forest closed by = record {
-  now = by.now ∙ ap (λ f. f.now) turned;
-  applied = by.applied ∙ ap (λ f. f.applied) turned;
-  tallied = tallied_marked g t.0 x.0 Nothing None mid new tallied by;
-  forest = subst (λ f. IsForestOf g f.closed f) (sym by.forest) forest;
-  closed = λ d. ap (λ f. slice_index_or f.closed d false) by.forest ∙ closed d;
-  marks_each = ap length by.marks ∙ length-set mid.marks x.0 Nothing ∙ ap length same_marks;
-  marks = marks_done g (record { time = t; what = Order x w }) x.0 Nothing None old mid new lx tallied (ap length same_marks ∙ ready.marks_each) same_marks same_due by
-      (λ d ne. named_alone x.0 d ne) nothing_is none_is;
-  due_devices = due_done g (record { time = t; what = Order x w }) x.0 Nothing None old mid new lx tallied (ap length same_marks ∙ ready.marks_each) same_marks same_due by
-      (λ d ne. named_alone x.0 d ne) nothing_is none_is;
-  kept = λ m lm. ap (λ e. kept_of e m) (by.evidence ∙ ap (λ f. f.evidence) turned);
+    IsMarkedBy g x.0 Nothing None old mid → IsTurned g x w mid new → IsDone g (record { time = t; what = Order x w }) old new
+ordered_done g t x w old mid new ready lx by turned = record {
+  now = turned.now ∙ by.now;
+  applied = turned.applied ∙ by.applied;
+  costed = turned.costed;
+  tallied = tallied_turned;
+  forest = turned.costed.posed.forest;
+  closed = λ d. turned.closed d ∙ ap (λ f. closed_by (Order x w) d (slice_index_or f.closed d false)) by.forest;
+  marks_each = ap length (turned.marks ∙ by.marks) ∙ length-set old.marks x.0 Nothing;
+  marks = λ d ld. ap (λ ms. problem.mark_at ms d) turned.marks
+      ∙ marks_done g (record { time = t; what = Order x w }) x.0 Nothing None old old mid lx ready.tallied ready.marks_each refl (λ k. refl) by
+      (λ k ne. named_alone x.0 k ne) nothing_is none_is d ld;
+  due_devices = λ d ld. ap (λ xs. slice_index_or xs (length g.meters + d) None) turned.due
+      ∙ due_done g (record { time = t; what = Order x w }) x.0 Nothing None old old mid lx ready.tallied ready.marks_each refl (λ k. refl) by
+      (λ k ne. named_alone x.0 k ne) nothing_is none_is d ld;
+  kept = λ m lm. ap (λ e. kept_of e m) (turned.evidence ∙ by.evidence);
 }
   where
     tallied : IsTallied g t.0 mid
-    tallied = subst (IsTallied g t.0) (sym turned) (record {
-      evidence = ready.tallied.evidence;
-      earlier = ready.tallied.earlier;
-      weighed = ready.tallied.weighed;
-      due_each = ready.tallied.due_each;
-      due_meters = ready.tallied.due_meters;
-    })
+    tallied = tallied_marked g t.0 x.0 Nothing None old mid ready.tallied by
 
-    same_marks : mid.marks ≡ old.marks
-    same_marks = ap (λ f. f.marks) turned
-
-    same_due : (d : ℕ) → slice_index_or mid.due (length g.meters + d) None ≡ slice_index_or old.due (length g.meters + d) None
-    same_due d = ap (λ f. slice_index_or f.due (length g.meters + d) None) turned
+    tallied_turned : IsTallied g t.0 new
+    tallied_turned = record {
+      evidence = subst (IsEvidenceOf g) (sym turned.evidence) tallied.evidence;
+      earlier = λ m lm. subst (λ e. (kept_of e m).at ≤ t.0) (sym turned.evidence) (tallied.earlier m lm);
+      weighed =
+          let a = subst (λ e. IsWeighed g e mid.dark mid.live) (sym turned.evidence) tallied.weighed in
+          let b = subst (λ xs. IsWeighed g new.evidence xs mid.live) (sym turned.dark) a in
+          subst (IsWeighed g new.evidence new.dark) (sym turned.live) b;
+      due_each = ap length turned.due ∙ tallied.due_each;
+      due_meters = λ m lm.
+          ap (λ xs. slice_index_or xs m None) turned.due
+          ∙ tallied.due_meters m lm
+          ∙ sym (ap (λ e. due_in g m (kept_of e m).at (kept_of e m).slots) turned.evidence);
+    }
 
     nothing_is : (b : Mark) → (if x.0 == x.0 then Nothing else b) ≡ Nothing
     nothing_is b = ap (λ y. if y then Nothing else b) (same_self x.0)

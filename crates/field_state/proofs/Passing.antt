@@ -6,12 +6,14 @@ use Rattle.grid_model.specs.Problem as problem
 use Rattle.grid_model.specs.declared.history.Event.{Event}
 use Rattle.grid_model.specs.declared.history.Mark.TheVariants as mark
 use Rattle.radial_forest.specs.Forested.{IsForestOf}
+use Rattle.subtree_costs.specs.Costed.{IsCosted}
 use Rattle.due_queue.specs.Due.{IsDue}
 use Rattle.evidence.specs.Kept.{Evident, kept_of, keeping}
 use Rattle.field_state.specs.Fielded.{Fielded}
 use Rattle.field_state.specs.FieldKept.{IsFieldKept, IsMarkKept}
 use Rattle.field_state.specs.Weighed.{IsTallied, IsTalliedBut}
-use Rattle.field_state.proofs.Tallied.{kept_here, kept_there}
+use Rattle.field_state.specs.Acted.{IsMarkedBy}
+use Rattle.field_state.proofs.Tallied.{kept_here, kept_there, tallied_of, tallied_marked}
 use Rattle.field_state.proofs.Expired.{expired}
 
 -- to a later time
@@ -20,6 +22,7 @@ kept_until g h t u f l k = record {
   sound = k.sound;
   history = k.history;
   later = omega (arith, k.later);
+  costed = k.costed;
   forest = k.forest;
   closed = k.closed;
   marks_each = k.marks_each;
@@ -54,13 +57,14 @@ popped_but g m t f k = record {
 }
 
 -- where a meter's time has come
-pub kept_lapsed : (g : Parts) (h : List Event) (t m : ℕ) (x : Option ℕ) (f new : Fielded) → IsFieldKept g h t f → m < length g.meters → IsTallied g t new
+pub kept_lapsed : (g : Parts) (h : List Event) (t m : ℕ) (x : Option ℕ) (f new : Fielded) → IsFieldKept g h t f → m < length g.meters → IsCosted g new.costs → IsTallied g t new
     → new.evidence ≡ keeping f.evidence m (kept_of f.evidence m).slots t → new.due ≡ set f.due m x → new.forest ≡ f.forest → new.marks ≡ f.marks
     → IsFieldKept g h t new
-kept_lapsed g h t m x f new k l tallied e due forest marks = record {
+kept_lapsed g h t m x f new k l costed tallied e due forest marks = record {
   sound = k.sound;
   history = k.history;
   later = k.later;
+  costed = costed;
   forest = subst (λ y. IsForestOf g y.closed y) (sym forest) k.forest;
   closed = λ d. ap (λ y. get_or y.closed d false) forest ∙ k.closed d;
   marks_each = ap length marks ∙ k.marks_each;
@@ -85,49 +89,50 @@ kept_lapsed g h t m x f new k l tallied e due forest marks = record {
 abbrev pub key_of : Parts → ℕ → ℕ
 key_of g d = length g.meters + d
 
--- a device without a mark
-abbrev pub unmarked : Parts → ℕ → Fielded → Fielded
-unmarked g d f = record f { marks = set f.marks d mark.Nothing; due = set f.due (length g.meters + d) None }
-
 -- where a mark's time has come
-pub kept_expired : (g : Parts) (h : List Event) (t d : ℕ) (f : Fielded) → IsFieldKept g h t f → d < length g.devices → IsDue f.due t (length g.meters + d)
-    → IsFieldKept g h t (unmarked g d f)
-kept_expired g h t d f k l due = record {
+pub kept_expired : (g : Parts) (h : List Event) (t d : ℕ) (f new : Fielded) → IsFieldKept g h t f → d < length g.devices → IsDue f.due t (length g.meters + d)
+    → IsMarkedBy g d mark.Nothing None f new → IsFieldKept g h t new
+kept_expired g h t d f new k l due by = record {
   sound = k.sound;
   history = k.history;
   later = k.later;
-  forest = k.forest;
-  closed = k.closed;
-  marks_each = length-set f.marks d mark.Nothing ∙ k.marks_each;
-  marks = λ j n. ⊎_elim (λ q. subst (IsMarkKept g h t (unmarked g d f)) (sym q) here) (λ ne. there j n ne) (cases_eq j d);
-  evidence = k.evidence;
-  slots = k.slots;
-  earlier = k.earlier;
-  dark_each = k.dark_each;
-  dark = k.dark;
-  live_each = k.live_each;
-  live = k.live;
-  due_each = length-set f.due (key_of g d) None ∙ k.due_each;
-  due_meters = λ m n. get_or-set_other f.due (key_of g d) m None None (λ q. absurd (let q' : m ≡ length g.meters + d = q in omega arith)) ∙ k.due_meters m n;
+  costed = by.costed;
+  forest = subst (λ y. IsForestOf g y.closed y) (sym by.forest) k.forest;
+  closed = λ j. ap (λ y. get_or y.closed j false) by.forest ∙ k.closed j;
+  marks_each = ap length by.marks ∙ length-set f.marks d mark.Nothing ∙ k.marks_each;
+  marks = λ j n. ⊎_elim (λ q. subst (IsMarkKept g h t new) (sym q) here) (λ ne. there j n ne) (cases_eq j d);
+  evidence = tallied.evidence;
+  slots = λ m n. ap (λ y. (kept_of y m).slots) by.evidence ∙ k.slots m n;
+  earlier = tallied.earlier;
+  dark_each = tallied.weighed.dark_each;
+  dark = tallied.weighed.dark_sums;
+  live_each = tallied.weighed.live_each;
+  live = tallied.weighed.live_sums;
+  due_each = tallied.due_each;
+  due_meters = tallied.due_meters;
 }
   where
-    here : IsMarkKept g h t (unmarked g d f) d
+    tallied : IsTallied g t new
+    tallied = tallied_marked g t d mark.Nothing None f new (tallied_of g h t f k) by
+
+    here : IsMarkKept g h t new d
     here =
         let w = k.marks d l in
         let over = expired g h d w.at t due.0 due.2 (sym w.due ∙ due.1) in
         record {
           at = t;
           earlier = (let z : t ≤ t = omega arith in z);
-          mark = get_or-set_same f.marks d mark.Nothing mark.Nothing (omega (arith, k.marks_each)) ∙ sym over.0;
-          due = get_or-set_same f.due (key_of g d) None None (omega (arith, k.due_each)) ∙ sym over.1;
+          mark = ap (λ y. problem.mark_at y d) by.marks ∙ get_or-set_same f.marks d mark.Nothing mark.Nothing (omega (arith, k.marks_each)) ∙ sym over.0;
+          due = ap (λ y. get_or y (key_of g d) None) by.due ∙ get_or-set_same f.due (key_of g d) None None (omega (arith, k.due_each)) ∙ sym over.1;
         }
 
-    there : (j : ℕ) → j < length g.devices → j ≢ d → IsMarkKept g h t (unmarked g d f) j
+    there : (j : ℕ) → j < length g.devices → j ≢ d → IsMarkKept g h t new j
     there j n ne =
         let w = k.marks j n in
         record {
           at = w.at;
           earlier = w.earlier;
-          mark = get_or-set_other f.marks d j mark.Nothing mark.Nothing ne ∙ w.mark;
-          due = get_or-set_other f.due (key_of g d) (length g.meters + j) None None (λ q. ne (let q' : length g.meters + j ≡ length g.meters + d = q in omega arith)) ∙ w.due;
+          mark = ap (λ y. problem.mark_at y j) by.marks ∙ get_or-set_other f.marks d j mark.Nothing mark.Nothing ne ∙ w.mark;
+          due = ap (λ y. get_or y (length g.meters + j) None) by.due
+              ∙ get_or-set_other f.due (key_of g d) (length g.meters + j) None None (λ q. ne (let q' : length g.meters + j ≡ length g.meters + d = q in omega arith)) ∙ w.due;
         }

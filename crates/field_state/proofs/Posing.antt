@@ -41,7 +41,7 @@ nodes_are_meters g w b h =
     (λ m l. let here = total_at_place (length g.nodes) (node_of g m) (w m) in let most = h m l in omega arith) in
     omega arith
 
-sum_at_nodes : (g : Parts) (xs : List ℕ) (w : ℕ → ℕ) → length xs ≡ length g.nodes → ((n : ℕ) → slice_index xs n ≡ at_node g w n) → sum xs ≡ total (length g.nodes) (at_node g w)
+pub sum_at_nodes : (g : Parts) (xs : List ℕ) (w : ℕ → ℕ) → length xs ≡ length g.nodes → ((n : ℕ) → slice_index xs n ≡ at_node g w n) → sum xs ≡ total (length g.nodes) (at_node g w)
 sum_at_nodes g xs w e h = sym (total_of_list (length g.nodes) xs e) ∙ total_same (length g.nodes) (λ k. get_or xs k 0) (at_node g w) (λ k l. h k)
 
 -- what one report weighs

@@ -17,6 +17,7 @@ pub kept_same : (g : Parts) (t : ℕ) (kept again : ℕ → Kept) (a b : Fielded
 kept_same g t kept again a b by same = record {
   now = by.now;
   applied = by.applied;
+  costed = by.costed;
   forest = by.forest;
   marks = by.marks;
   tallied = by.tallied;

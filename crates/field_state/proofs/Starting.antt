@@ -1,25 +1,18 @@
 -- The field before the first event.
-use Rattle.std.proofs.Common.{◌≡◌, ℕ, ◌+◌, Bool, true, false, cond, List, [], length, get_or, refl, sym, ap, ◌∙◌, subst, ⊎_elim, arith}
+use Rattle.std.proofs.Common.{◌≡◌, ℕ, ◌+◌, Bool, true, false, cond, [], length, get_or, refl, sym, ap, ◌∙◌, ⊎_elim, arith}
 use Rattle.std.specs.Prelude.{◌==◌, None, if◌then◌else◌, slice_index, slice_index_or, replicate}
-use Rattle.std.proofs.Math.Path.{fun_ext}
 use Rattle.std.proofs.lemmas.Bool.{cases_lt}
 use Rattle.std.proofs.lemmas.List.{get_or-replicate, get_or_past, length-replicate}
-use Rattle.outage_rules.specs.Network.{IsRadial}
 use Rattle.grid_model.specs.Parts.{Parts}
 use Rattle.grid_model.specs.Places.{node_of, device_at}
-use Rattle.grid_model.specs.Network.{network_in}
 use Rattle.grid_model.specs.Sound.{IsSoundParts}
 use Rattle.grid_model.specs.declared.history.Mark.TheVariants as mark
-use Rattle.radial_forest.specs.Forested.{IsForestOf}
+use Rattle.grid_model.specs.Problem.{mark_at}
+use Rattle.subtree_costs.specs.Costed.{IsCosted}
 use Rattle.history_rules.specs.Posed.{at_node}
 use Rattle.evidence.specs.Kept.{kept_of, no_evidence, nothing_kept, pull_by}
 use Rattle.field_state.specs.Fielded.{Fielded, IsFieldAfter}
 use Rattle.field_state.proofs.Totals.{total_zero}
-
--- the devices that start closed close no loop
-pub starts_radial : (g : Parts) (closed : List Bool) → IsSoundParts g → ((d : ℕ) → slice_index_or closed d false ≡ (device_at g d).starts_closed) → IsRadial (network_in g (λ d. slice_index_or closed d false))
-starts_radial g closed sound states =
-    subst (λ c. IsRadial (network_in g c)) (sym (fun_ext {f = λ d. slice_index_or closed d false} {g = λ d. (device_at g d).starts_closed} states)) sound.radial
 
 copied : {X : Type 0} (n i : ℕ) (x : X) → get_or (replicate n x) i x ≡ x
 copied n i x =
@@ -40,7 +33,7 @@ pub record IsNew (g : Parts) (f : Fielded) : Type 0 where
   pub sound : IsSoundParts g
   pub time : f.now ≡ 0
   pub count : f.applied ≡ 0
-  pub forest : IsForestOf g f.forest.closed f.forest
+  pub costed : IsCosted g f.costs
   pub closed : (d : ℕ) → slice_index_or f.forest.closed d false ≡ (device_at g d).starts_closed
   pub marks : f.marks ≡ replicate (length g.devices) mark.Nothing
   pub evidence : f.evidence ≡ no_evidence g
@@ -61,10 +54,11 @@ module _ (g : Parts) (f : Fielded) (start : IsNew g f) where
     history = tt;
     time = start.time;
     count = start.count;
-    forest = start.forest;
+    costed = start.costed;
+    forest = start.costed.posed.forest;
     closed = start.closed;
-    marks_each = ap length start.marks ∙ length-replicate (length g.devices) mark.Nothing;
-    marks = λ d. ap (λ marks. slice_index_or marks d mark.Nothing) start.marks ∙ copied (length g.devices) d mark.Nothing;
+    marks_each = start.costed.posed.marks_each;
+    marks = λ d. ap (λ marks. mark_at marks d) start.marks ∙ copied (length g.devices) d mark.Nothing;
     evidence = record {
       settings = ap (λ e. e.settings) start.evidence;
       each = ap (λ e. length e.meters) start.evidence ∙ length-replicate (length g.meters) nothing_kept;
@@ -72,10 +66,10 @@ module _ (g : Parts) (f : Fielded) (start : IsNew g f) where
     slots = λ m l. ap (λ k. k.slots) (kept_none m);
     earlier = λ m l. let e = ap (λ k. k.at) (kept_none m) in omega arith;
     pulls = λ m l. ap (pull_by g m) (kept_none m);
-    dark_each = ap length start.dark ∙ length-replicate (length g.nodes) 0;
-    dark = λ n. ap (λ xs. slice_index xs n) start.dark ∙ copied (length g.nodes) n 0 ∙ sym (nothing_at_node g n);
-    live_each = ap length start.live ∙ length-replicate (length g.nodes) 0;
-    live = λ n. ap (λ xs. slice_index xs n) start.live ∙ copied (length g.nodes) n 0 ∙ sym (nothing_at_node g n);
+    dark_each = start.costed.posed.dark_each;
+    dark = λ n. ap (λ weights. slice_index weights n) start.dark ∙ copied (length g.nodes) n 0 ∙ sym (nothing_at_node g n);
+    live_each = start.costed.posed.live_each;
+    live = λ n. ap (λ weights. slice_index weights n) start.live ∙ copied (length g.nodes) n 0 ∙ sym (nothing_at_node g n);
     due_each = ap length start.due ∙ length-replicate (length g.meters + length g.devices) None;
     due_meters = λ m l. no_time m;
     due_devices = λ d l. no_time (length g.meters + d);

@@ -9,6 +9,8 @@ use Rattle.evidence.specs.declared.Pull.{Pull}
 use Rattle.field_state.specs.Fielded.{Fielded}
 use Rattle.field_state.specs.FieldKept.{dark_kept, live_kept}
 use Rattle.field_state.specs.Weighed.{IsWeighed, WasWeighed}
+use Rattle.std.specs.Prelude.{sum}
+use Rattle.field_state.proofs.Posing.{sum_at_nodes, nodes_are_meters}
 use Rattle.field_state.proofs.Reweighed.{weight_part, node_most, dark_most, live_most, sums_moved}
 
 pub dark_fits : (g : Parts) (m : ℕ) (before : Pull) (f : Fielded) → IsSoundParts g → m < length g.meters → WasWeighed g m before f
@@ -74,3 +76,23 @@ taken g m before after f sound l w a =
 
     lives : in_place f.live (node_of g m) before.live after.live ≡ in_place f.live (node_of g m) (live_kept g w.was m) (live_kept g f.evidence m)
     lives = ap (λ b. in_place f.live (node_of g m) b after.live) (ap (λ p. p.live) w.weight) ∙ ap (in_place f.live (node_of g m) (live_kept g w.was m)) (ap (λ p. p.live) a)
+
+-- the same, where the old sums were read
+pub taken_in : (g : Parts) (m : ℕ) (before after : Pull) (f : Fielded) → IsSoundParts g → m < length g.meters → WasWeighed g m before f
+    → after ≡ pull_by g m (kept_of f.evidence m) → (n x y : ℕ) → n ≡ node_of g m → x ≡ get_or f.dark n 0 → y ≡ get_or f.live n 0
+    → IsWeighed g f.evidence (set f.dark n ((x - before.dark) + after.dark)) (set f.live n ((y - before.live) + after.live))
+taken_in g m before after f sound l w a n x y is is_x is_y =
+    subst (λ k. IsWeighed g f.evidence (set f.dark n ((k - before.dark) + after.dark)) (set f.live n ((y - before.live) + after.live))) (sym is_x)
+    (subst (λ k. IsWeighed g f.evidence (in_place f.dark n before.dark after.dark) (set f.live n ((k - before.live) + after.live))) (sym is_y)
+    (subst (λ k. IsWeighed g f.evidence (in_place f.dark k before.dark after.dark) (in_place f.live k before.live after.live)) (sym is)
+    (taken g m before after f sound l w a)))
+
+-- the sums of what is kept are within the bounds of a problem
+pub sums_are_small : (g : Parts) (e : Evident) (darks lives : List ℕ) → IsSoundParts g → IsWeighed g e darks lives → (sum darks ≤ 1000000000000) × (sum lives ≤ 1000000000000)
+sums_are_small g e darks lives sound w =
+    let dark = sum_at_nodes g darks (dark_kept g e) w.dark_each w.dark_sums in
+    let live = sum_at_nodes g lives (live_kept g e) w.live_each w.live_sums in
+    let dark_total = nodes_are_meters g (dark_kept g e) 2000000 (λ m l. dark_most g e m sound.settings) in
+    let live_total = nodes_are_meters g (live_kept g e) 2000000 (λ m l. live_most g e m sound.settings) in
+    let few = sound.few_meters in
+    (omega arith, omega arith)

@@ -1,14 +1,16 @@
 -- Sums and times follow what is kept, from one meter's change to the next.
-use Rattle.std.proofs.Common.{◌≡◌, ◌≢◌, ℕ, ◌<◌, ◌≤◌, List, length, set, get_or, Option, Some, None, option_map, refl, sym, ap, ◌∙◌, subst, ⊎_elim, arith, length-set, get_or-set_same, get_or-set_other}
+use Rattle.std.proofs.Common.{◌≡◌, ◌≢◌, ℕ, ◌+◌, ◌<◌, ◌≤◌, List, length, set, get_or, Option, Some, None, option_map, refl, sym, ap, ◌∙◌, subst, ⊎_elim, arith, length-set, get_or-set_same, get_or-set_other}
 use Rattle.std.proofs.lemmas.Bool.{cases_eq}
 use Rattle.grid_model.specs.Parts.{Parts}
 use Rattle.grid_model.specs.declared.history.Event.{Event}
 use Rattle.history_rules.specs.Slots.{Slots, due_in}
-use Rattle.evidence.specs.Kept.{Evident, Kept, kept_of, keeping, nothing_kept, pull_by, stamp_at}
+use Rattle.evidence.specs.Kept.{Evident, Kept, IsEvidenceOf, kept_of, keeping, nothing_kept, pull_by, stamp_at}
 use Rattle.evidence.specs.declared.Pull.{Pull}
 use Rattle.field_state.specs.Fielded.{Fielded}
 use Rattle.field_state.specs.FieldKept.{IsFieldKept}
 use Rattle.field_state.specs.Weighed.{IsWeighed, WasWeighed, IsTallied, IsTalliedBut}
+use Rattle.field_state.specs.Acted.{IsMarkedBy}
+use Rattle.grid_model.specs.declared.history.Mark.{Mark}
 
 -- what is kept of the meter that changes, and of the others
 pub kept_here : (e : Evident) (m : ℕ) (s : Slots) (t : ℕ) → m < length e.meters → kept_of (keeping e m s t) m ≡ record { slots = s; at = t }
@@ -93,3 +95,20 @@ tallied_but g m t f k = record { evidence = k.evidence; earlier = k.earlier; wei
 pub due_here : (g : Parts) (m t : ℕ) (s : Slots) (e new : Evident) (after : Pull) → m < length e.meters → new ≡ keeping e m s t
     → after ≡ pull_by g m (kept_of new m) → option_map (λ t. t.0) after.due ≡ due_in g m t s
 due_here g m t s e new after l k p = due_of_pull g m (kept_of new m) after p ∙ ap (λ x. due_by g m (kept_of x m)) k ∙ ap (due_by g m) (kept_here e m s t l)
+
+-- the sums follow what is kept as before
+pub tallied_marked : (g : Parts) (t d : ℕ) (mark : Mark) (end : Option ℕ) (old new : Fielded) → IsTallied g t old → IsMarkedBy g d mark end old new → IsTallied g t new
+tallied_marked g t d mark end old new tallied by = record {
+  evidence = subst (IsEvidenceOf g) (sym by.evidence) tallied.evidence;
+  earlier = λ m lm. subst (λ e. (kept_of e m).at ≤ t) (sym by.evidence) (tallied.earlier m lm);
+  weighed =
+      let a = subst (λ e. IsWeighed g e old.dark old.live) (sym by.evidence) tallied.weighed in
+      let b = subst (λ xs. IsWeighed g new.evidence xs old.live) (sym by.dark) a in
+      subst (IsWeighed g new.evidence new.dark) (sym by.live) b;
+  due_each = ap length by.due ∙ length-set old.due (length g.meters + d) end ∙ tallied.due_each;
+  due_meters = λ m lm.
+      ap (λ xs. get_or xs m None) by.due
+      ∙ get_or-set_other old.due (length g.meters + d) m end None (λ q. absurd (let e : m ≡ length g.meters + d = q in omega arith))
+      ∙ tallied.due_meters m lm
+      ∙ sym (ap (λ e. due_in g m (kept_of e m).at (kept_of e m).slots) by.evidence);
+}

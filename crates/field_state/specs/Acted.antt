@@ -17,8 +17,10 @@ use Rattle.grid_model.specs.declared.history.Refusal.TheVariants.{NotClosed, Loo
 use Rattle.outage_rules.specs.Loops.{would_loop}
 use Rattle.outage_rules.specs.Sum.{some_below}
 use Rattle.grid_model.specs.declared.parts.NodeId.{NodeId}
+use Rattle.grid_model.specs.declared.parts.DeviceId.{DeviceId}
 use Rattle.radial_forest.specs.Traversed.{node_at}
 use Rattle.radial_forest.specs.Forested.{IsForestOf}
+use Rattle.subtree_costs.specs.Costed.{IsCosted}
 use Rattle.history_rules.specs.State.{closed_by, mark_by, is_below}
 use Rattle.history_rules.specs.Evidence.{is_call_of, is_signal_of}
 use Rattle.history_rules.specs.Slots.{slots_after, slots_restored, end_after}
@@ -42,6 +44,7 @@ is_brought g closed m _ = false
 -- the field of a sound network, with nothing kept after time t
 pub record IsReady (g : Parts) (t : ℕ) (f : Fielded) : Type 0 where
   pub sound : IsSoundParts g
+  pub costed : IsCosted g f.costs
   pub tallied : IsTallied g t f
   pub forest : IsForestOf g f.forest.closed f.forest
   pub marks_each : length f.marks ≡ length g.devices
@@ -69,6 +72,7 @@ rule_in g closed w = if stands_open closed w then Some NotClosed else (if closes
 pub record IsKeptBy (g : Parts) (t : ℕ) (kept : ℕ → Kept) (old new : Fielded) : Type 0 where
   pub now : new.now ≡ old.now
   pub applied : new.applied ≡ old.applied
+  pub costed : IsCosted g new.costs
   pub forest : new.forest ≡ old.forest
   pub marks : new.marks ≡ old.marks
   pub tallied : IsTallied g t new
@@ -87,6 +91,7 @@ is_listed nodes count n = some_below count (λ i. node_at nodes i == n)
 pub record IsMarkedBy (g : Parts) (d : ℕ) (mark : Mark) (end : Option ℕ) (old new : Fielded) : Type 0 where
   pub now : new.now ≡ old.now
   pub applied : new.applied ≡ old.applied
+  pub costed : IsCosted g new.costs
   pub forest : new.forest ≡ old.forest
   pub marks : new.marks ≡ slice_set old.marks d mark
   pub evidence : new.evidence ≡ old.evidence
@@ -94,10 +99,23 @@ pub record IsMarkedBy (g : Parts) (d : ℕ) (mark : Mark) (end : Option ℕ) (ol
   pub live : new.live ≡ old.live
   pub due : new.due ≡ slice_set old.due (length g.meters + d) end
 
+-- a device is in the state that an order wants, and all but the trees and rows stays
+pub record IsTurned (g : Parts) (d : DeviceId) (w : Want) (old new : Fielded) : Type 0 where
+  pub now : new.now ≡ old.now
+  pub applied : new.applied ≡ old.applied
+  pub costed : IsCosted g new.costs
+  pub closed : (e : ℕ) → slice_index_or new.forest.closed e false ≡ closed_by (Order d w) e (slice_index_or old.forest.closed e false)
+  pub marks : new.marks ≡ old.marks
+  pub evidence : new.evidence ≡ old.evidence
+  pub dark : new.dark ≡ old.dark
+  pub live : new.live ≡ old.live
+  pub due : new.due ≡ old.due
+
 -- states, marks and what is kept are those after the event
 pub record IsDone (g : Parts) (e : Event) (old new : Fielded) : Type 0 where
   pub now : new.now ≡ old.now
   pub applied : new.applied ≡ old.applied
+  pub costed : IsCosted g new.costs
   pub tallied : IsTallied g e.time.0 new
   pub forest : IsForestOf g new.forest.closed new.forest
   pub closed : (d : ℕ) → slice_index_or new.forest.closed d false ≡ closed_by e.what d (slice_index_or old.forest.closed d false)

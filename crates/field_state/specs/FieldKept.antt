@@ -5,6 +5,7 @@ use Rattle.grid_model.specs.Sound.{IsSoundParts}
 use Rattle.grid_model.specs.Problem as problem
 use Rattle.grid_model.specs.declared.history.Event.{Event}
 use Rattle.radial_forest.specs.Forested.{IsForestOf}
+use Rattle.subtree_costs.specs.Costed.{IsCosted}
 use Rattle.due_queue.specs.Due.{IsNothingDue}
 use Rattle.history_rules.specs.State.{now, is_closed, mark_at}
 use Rattle.history_rules.specs.Posed.{at_node, IsHistory}
@@ -31,6 +32,7 @@ pub record IsFieldKept (g : Parts) (h : List Event) (t : ℕ) (f : Fielded) : Ty
   pub sound : IsSoundParts g
   pub history : IsHistory g h
   pub later : now h ≤ t
+  pub costed : IsCosted g f.costs
   pub forest : IsForestOf g f.forest.closed f.forest
   pub closed : (d : ℕ) → slice_index_or f.forest.closed d false ≡ is_closed g h d
   pub marks_each : length f.marks ≡ length g.devices

@@ -9,12 +9,12 @@ use Rattle.grid_model.specs.Network.{network_in}
 use Rattle.grid_model.specs.Problem as problem
 use Rattle.grid_model.specs.declared.parts.Setting.TheVariants.{OkHold}
 use Rattle.grid_model.specs.declared.history.Event.{Event}
-use Rattle.grid_model.specs.declared.history.Mark.{Mark}
 use Rattle.grid_model.specs.declared.history.What.{What}
 use Rattle.grid_model.specs.declared.history.What.TheVariants.{Confirm, Restore, Order}
 use Rattle.grid_model.specs.declared.history.Confirmed.TheVariants as confirmed
 use Rattle.grid_model.specs.declared.history.Refusal.{Refusal}
-use Rattle.radial_forest.specs.Forested.{Forested, IsForestOf}
+use Rattle.radial_forest.specs.Forested.{IsForestOf}
+use Rattle.subtree_costs.specs.Costed.{Costed, IsCosted}
 use Rattle.history_rules.specs.State.{now, is_closed, mark_of}
 use Rattle.history_rules.specs.Evidence.{dark_weight, live_weight}
 use Rattle.history_rules.specs.Posed.{at_node, problem_after, IsHistory}
@@ -22,16 +22,14 @@ use Rattle.history_rules.specs.Slots.{slots_of, end_after, due_in}
 use Rattle.evidence.specs.Kept.{Evident, IsEvidenceOf, kept_of, pull_by, stamp_at}
 use Rattle.evidence.specs.declared.Pull.{Pull}
 
--- the clock and the number of events; the trees of the closed devices; the marks by device; what is kept of the reports by meter,
--- and their sums by node; and when each meter's weights change next by themselves, and behind the meters each device's mark
+-- the clock and the number of events; the least costs of the parts, with the trees of the closed devices, the marks by device, and the sums of the
+-- reports by node; what is kept of the reports by meter; and when each meter's weights change next by themselves, and behind the meters each device's mark
 pub record Fielded : Type 0 where
   pub now : ℕ
   pub applied : ℕ
-  pub forest : Forested
-  pub marks : List Mark
+  pub costs : Costed
+  pub open costs use *
   pub evidence : Evident
-  pub dark : List ℕ
-  pub live : List ℕ
   pub due : List (Option ℕ)
 
 -- the end of the hold that an event leaves on the mark of device d, by the one before it
@@ -61,6 +59,7 @@ pub record IsFieldAfter (g : Parts) (h : List Event) (f : Fielded) : Type 0 wher
   pub history : IsHistory g h
   pub time : f.now ≡ now h
   pub count : f.applied ≡ length h
+  pub costed : IsCosted g f.costs
   pub forest : IsForestOf g f.forest.closed f.forest
   pub closed : (d : ℕ) → slice_index_or f.forest.closed d false ≡ is_closed g h d
   pub marks_each : length f.marks ≡ length g.devices

@@ -6,6 +6,8 @@ use evidence::Sign;
 use grid_model::{
     Confirmed, DeviceId, Event, Grid, Mark, MeterId, NodeId, Setting, Stamp, Want, What,
 };
+use std::sync::ledger::Ledger;
+use subtree_costs::Steps;
 use switching::{Change, decide};
 
 impl State {
@@ -15,7 +17,9 @@ impl State {
     ghost use Rattle.grid_model.specs.Places.{node_of, setting_of};
     ghost use Rattle.grid_model.specs.declared.parts.Setting.TheVariants.{OkHold};
     ghost use Rattle.grid_model.specs.declared.history.Stamp.{Stamp};
-    ghost use Rattle.radial_forest.specs.Forested.{IsForestOf};
+    ghost use Rattle.grid_model.specs.Problem.{mark_at};
+    ghost use Rattle.grid_model.specs.declared.history.Mark.TheVariants.{Nothing};
+    ghost use Rattle.subtree_costs.specs.Costed.{IsCosted};
     ghost use Rattle.history_rules.specs.Slots.{end_after};
     ghost use Rattle.grid_model.specs.Network.{network_in};
     ghost use Rattle.grid_model.specs.declared.history.What.TheVariants as what;
@@ -25,10 +29,10 @@ impl State {
     ghost use Rattle.grid_model.specs.declared.history.Event.{Event};
     ghost use Rattle.history_rules.specs.Posed.{IsOfGrid, refusal_of};
     ghost use Rattle.field_state.specs.FieldKept.{IsFieldAt};
-    ghost use Rattle.field_state.specs.Acted.{rule_in, IsReady, IsKeptBy, IsMarkedBy, IsDone, restored_if, is_listed, is_brought};
+    ghost use Rattle.field_state.specs.Acted.{rule_in, IsReady, IsKeptBy, IsMarkedBy, IsTurned, IsDone, restored_if, is_listed, is_brought};
 
     // A call of a meter.
-    fn call(&mut self, grid: &Grid, m: MeterId, now: Stamp)
+    fn call<L: Ledger>(&mut self, grid: &Grid, m: MeterId, now: Stamp, steps: &mut Steps<L>)
         requires ready { IsReady grid.now now.0 self.old }
         requires meter { m.0 < length grid.now.meters }
         requires range { now.0 ≤ 253_402_300_799 }
@@ -36,11 +40,18 @@ impl State {
     {
         let before = self.evidence.pull(m);
         let after = self.evidence.call(grid, m, now);
-        self.take_pull(grid, m, before, after);
+        self.take_pull(grid, m, before, after, steps);
     }
 
     // A signal of a meter.
-    fn signal(&mut self, grid: &Grid, m: MeterId, sign: Sign, now: Stamp)
+    fn signal<L: Ledger>(
+        &mut self,
+        grid: &Grid,
+        m: MeterId,
+        sign: Sign,
+        now: Stamp,
+        steps: &mut Steps<L>,
+    )
         requires ready { IsReady grid.now now.0 self.old }
         requires meter { m.0 < length grid.now.meters }
         requires range { now.0 ≤ 253_402_300_799 }
@@ -48,11 +59,17 @@ impl State {
     {
         let before = self.evidence.pull(m);
         let after = self.evidence.signal(grid, m, sign, now);
-        self.take_pull(grid, m, before, after);
+        self.take_pull(grid, m, before, after, steps);
     }
 
     // A restoration brings a meter back.
-    fn restore_meter(&mut self, grid: &Grid, m: MeterId, now: Stamp)
+    fn restore_meter<L: Ledger>(
+        &mut self,
+        grid: &Grid,
+        m: MeterId,
+        now: Stamp,
+        steps: &mut Steps<L>,
+    )
         requires ready { IsReady grid.now now.0 self.old }
         requires meter { m.0 < length grid.now.meters }
         requires range { now.0 ≤ 253_402_300_799 }
@@ -60,23 +77,29 @@ impl State {
     {
         let before = self.evidence.pull(m);
         let after = self.evidence.restored(grid, m, now);
-        self.take_pull(grid, m, before, after);
+        self.take_pull(grid, m, before, after, steps);
     }
 
     // A restoration brings the meters at a node back.
-    fn restore_node(&mut self, grid: &Grid, n: NodeId, now: Stamp)
+    fn restore_node<L: Ledger>(&mut self, grid: &Grid, n: NodeId, now: Stamp, steps: &mut Steps<L>)
         requires ready { IsReady grid.now now.0 self.old }
         requires node { n.0 < length grid.now.nodes }
         requires range { now.0 ≤ 253_402_300_799 }
         ensures { IsKeptBy grid.now now.0 (λ k. restored_if (node_of grid.now k == n.0) now.0 (kept_of self.old.evidence k)) self.old self.new }
     {
         for m in grid.meters_at(n) {
-            self.restore_meter(grid, *m, now);
+            self.restore_meter(grid, *m, now, steps);
         }
     }
 
     // A restoration brings the meters at the fed ones of these nodes back.
-    fn restore_nodes(&mut self, grid: &Grid, nodes: &[NodeId], now: Stamp)
+    fn restore_nodes<L: Ledger>(
+        &mut self,
+        grid: &Grid,
+        nodes: &[NodeId],
+        now: Stamp,
+        steps: &mut Steps<L>,
+    )
         requires ready { IsReady grid.now now.0 self.old }
         requires nodes { (i : ℕ) → i < length nodes.now → node_at nodes.now i < length grid.now.nodes }
         requires range { now.0 ≤ 253_402_300_799 }
@@ -85,46 +108,61 @@ impl State {
             && is_fed (network_in grid.now (λ e. slice_index_or self.old.forest.closed e false)) (node_of grid.now k)) now.0 (kept_of self.old.evidence k)) self.old self.new }
     {
         for n in nodes {
-            if self.forest.is_fed(grid, *n) {
-                self.restore_node(grid, *n, now);
+            if self.costs.forest().is_fed(grid, *n) {
+                self.restore_node(grid, *n, now, steps);
             }
         }
     }
 
     // Marks a device as fine, for as long as such a mark holds.
-    fn mark_fine(&mut self, grid: &Grid, d: DeviceId, now: Stamp)
+    fn mark_fine<L: Ledger>(&mut self, grid: &Grid, d: DeviceId, now: Stamp, steps: &mut Steps<L>)
+        requires costed { IsCosted grid.now self.old.costs }
         requires device { d.0 < length grid.now.devices }
-        requires marks { length self.old.marks ≡ length grid.now.devices }
+        requires closed { slice_index_or self.old.forest.closed d.0 false ≡ true }
         requires due { length self.old.due ≡ length grid.now.meters + length grid.now.devices }
         requires range { now.0 ≤ 253_402_300_799 }
         ensures { IsMarkedBy grid.now d.0 (fine_while (nat_lt now.0 (now.0 + setting_of grid.now OkHold)))
             (end_after now.0 (now.0 + setting_of grid.now OkHold)) self.old self.new }
     {
-        let _ = grid.devices();
         let hold = grid.setting(Setting::OkHold);
         if hold > 0 {
-            self.take_mark(grid, d, Mark::Fine, Some(Stamp(now.0 + hold)));
+            self.take_mark(grid, d, Mark::Fine, Some(Stamp(now.0 + hold)), steps);
         } else {
-            self.take_mark(grid, d, Mark::Nothing, None);
+            self.take_mark(grid, d, Mark::Nothing, None, steps);
         }
     }
 
     // What a crew says of a device.
-    fn confirm(&mut self, grid: &Grid, d: DeviceId, said: Confirmed, now: Stamp)
+    fn confirm<L: Ledger>(
+        &mut self,
+        grid: &Grid,
+        d: DeviceId,
+        said: Confirmed,
+        now: Stamp,
+        steps: &mut Steps<L>,
+    )
         requires ready { IsReady grid.now now.0 self.old }
         requires device { d.0 < length grid.now.devices }
+        requires closed { slice_index_or self.old.forest.closed d.0 false ≡ true }
         requires range { now.0 ≤ 253_402_300_799 }
         ensures { IsDone grid.now (record { time = now; what = what.Confirm d said }) self.old self.new }
     {
         match said {
-            Confirmed::Opened => self.take_mark(grid, d, Mark::Opened, None),
-            Confirmed::Fine => self.mark_fine(grid, d, now),
-            Confirmed::Cleared => self.take_mark(grid, d, Mark::Nothing, None),
+            Confirmed::Opened => self.take_mark(grid, d, Mark::Opened, None, steps),
+            Confirmed::Fine => self.mark_fine(grid, d, now, steps),
+            Confirmed::Cleared => self.take_mark(grid, d, Mark::Nothing, None, steps),
         }
     }
 
     // A restoration brings the meters back that a closed device feeds. There is room for all nodes.
-    fn bring_back(&mut self, grid: &Grid, d: DeviceId, now: Stamp, room: &mut [NodeId])
+    fn bring_back<L: Ledger>(
+        &mut self,
+        grid: &Grid,
+        d: DeviceId,
+        now: Stamp,
+        room: &mut [NodeId],
+        steps: &mut Steps<L>,
+    )
         requires ready { IsReady grid.now now.0 self.old }
         requires device { d.0 < length grid.now.devices }
         requires closed { slice_index_or self.old.forest.closed d.0 false ≡ true }
@@ -132,12 +170,19 @@ impl State {
         requires range { now.0 ≤ 253_402_300_799 }
         ensures { IsKeptBy grid.now now.0 (λ k. restored_if (is_brought grid.now self.old.forest.closed k (what.Restore d)) now.0 (kept_of self.old.evidence k)) self.old self.new }
     {
-        let count = self.forest.walk_below(grid, d, room);
-        self.restore_nodes(grid, &room[..count], now);
+        let count = self.costs.forest().walk_below(grid, d, room);
+        self.restore_nodes(grid, &room[..count], now, steps);
     }
 
     // A closed device feeds again what is below it. There is room for all nodes.
-    fn restore(&mut self, grid: &Grid, d: DeviceId, now: Stamp, room: &mut [NodeId])
+    fn restore<L: Ledger>(
+        &mut self,
+        grid: &Grid,
+        d: DeviceId,
+        now: Stamp,
+        room: &mut [NodeId],
+        steps: &mut Steps<L>,
+    )
         requires ready { IsReady grid.now now.0 self.old }
         requires device { d.0 < length grid.now.devices }
         requires closed { slice_index_or self.old.forest.closed d.0 false ≡ true }
@@ -145,42 +190,47 @@ impl State {
         requires range { now.0 ≤ 253_402_300_799 }
         ensures { IsDone grid.now (record { time = now; what = what.Restore d }) self.old self.new }
     {
-        self.bring_back(grid, d, now, room);
-        self.mark_fine(grid, d, now);
+        self.bring_back(grid, d, now, room, steps);
+        self.mark_fine(grid, d, now, steps);
     }
 
     // Puts a device into the state that is wanted, which closes no loop.
-    fn turn(&mut self, grid: &Grid, d: DeviceId, want: Want)
-        requires forest { IsForestOf grid.now self.old.forest.closed self.old.forest }
+    fn turn<L: Ledger>(&mut self, grid: &Grid, d: DeviceId, want: Want, steps: &mut Steps<L>)
+        requires costed { IsCosted grid.now self.old.costs }
         requires device { d.0 < length grid.now.devices }
+        requires unmarked { mark_at self.old.marks d.0 ≡ Nothing }
         requires unlooped { want ≡ wanted.Closed → slice_index_or self.old.forest.closed d.0 false ≡ false
             → would_loop (network_in grid.now (λ e. slice_index_or self.old.forest.closed e false)) d.0 ≡ false }
-        ensures forest { IsForestOf grid.now self.new.forest.closed self.new.forest }
-        ensures closed { (e : ℕ) → slice_index_or self.new.forest.closed e false ≡ closed_by (what.Order d want) e (slice_index_or self.old.forest.closed e false) }
-        ensures same { self.new ≡ record self.old { forest = self.new.forest } }
+        ensures turned { IsTurned grid.now d want self.old self.new }
     {
-        match decide(grid, &self.forest, d, want) {
-            Ok(Change::Opens) => self.forest.rebuild(grid, d, false),
-            Ok(Change::Closes) => self.forest.rebuild(grid, d, true),
+        match decide(grid, self.costs.forest(), d, want) {
+            Ok(Change::Opens) => self.costs.rebuild(grid, d, false, steps),
+            Ok(Change::Closes) => self.costs.rebuild(grid, d, true, steps),
             Ok(Change::Nothing) => {}
             Err(_) => {}
         }
     }
 
     // A switching order that isn't refused.
-    fn order(&mut self, grid: &Grid, d: DeviceId, want: Want)
+    fn order<L: Ledger>(&mut self, grid: &Grid, d: DeviceId, want: Want, steps: &mut Steps<L>)
         requires ready { (t : ℕ) × IsReady grid.now t self.old }
         requires device { d.0 < length grid.now.devices }
         requires unlooped { want ≡ wanted.Closed → slice_index_or self.old.forest.closed d.0 false ≡ false
             → would_loop (network_in grid.now (λ e. slice_index_or self.old.forest.closed e false)) d.0 ≡ false }
         ensures { (now : Stamp) → IsReady grid.now now.0 self.old → IsDone grid.now (record { time = now; what = what.Order d want }) self.old self.new }
     {
-        self.turn(grid, d, want);
-        self.take_mark(grid, d, Mark::Nothing, None);
+        self.take_mark(grid, d, Mark::Nothing, None, steps);
+        self.turn(grid, d, want, steps);
     }
 
     // Does what an event says.
-    fn perform(&mut self, grid: &Grid, event: Event, room: &mut [NodeId])
+    fn perform<L: Ledger>(
+        &mut self,
+        grid: &Grid,
+        event: Event,
+        room: &mut [NodeId],
+        steps: &mut Steps<L>,
+    )
         requires ready { IsReady grid.now event.time.0 self.old }
         requires of_grid { IsOfGrid grid.now event.what }
         requires allowed { rule_in grid.now self.old.forest.closed event.what ≡ None }
@@ -189,21 +239,27 @@ impl State {
         ensures { IsDone grid.now event self.old self.new }
     {
         match event.what {
-            What::Call(m) => self.call(grid, m, event.time),
-            What::Gasp(m) => self.signal(grid, m, Sign::Gasp, event.time),
-            What::PingDown(m) => self.signal(grid, m, Sign::PingDown, event.time),
-            What::PingUp(m) => self.signal(grid, m, Sign::PingUp, event.time),
-            What::Powerup(m) => self.signal(grid, m, Sign::Powerup, event.time),
-            What::Confirm(d, said) => self.confirm(grid, d, said, event.time),
-            What::Restore(d) => self.restore(grid, d, event.time, room),
-            What::Order(d, want) => self.order(grid, d, want),
+            What::Call(m) => self.call(grid, m, event.time, steps),
+            What::Gasp(m) => self.signal(grid, m, Sign::Gasp, event.time, steps),
+            What::PingDown(m) => self.signal(grid, m, Sign::PingDown, event.time, steps),
+            What::PingUp(m) => self.signal(grid, m, Sign::PingUp, event.time, steps),
+            What::Powerup(m) => self.signal(grid, m, Sign::Powerup, event.time, steps),
+            What::Confirm(d, said) => self.confirm(grid, d, said, event.time, steps),
+            What::Restore(d) => self.restore(grid, d, event.time, room, steps),
+            What::Order(d, want) => self.order(grid, d, want, steps),
             What::Clock => {}
         }
     }
 
     // Does what an event says that no rule refuses, at its time, where nothing is due. There is room
     // for all nodes.
-    pub(crate) fn act(&mut self, grid: &Grid, event: Event, room: &mut [NodeId])
+    pub(crate) fn act<L: Ledger>(
+        &mut self,
+        grid: &Grid,
+        event: Event,
+        room: &mut [NodeId],
+        steps: &mut Steps<L>,
+    )
         requires at { (h : List Event) × IsFieldAt grid.now h event.time.0 self.old × (refusal_of grid.now h event ≡ None) }
         requires of_grid { IsOfGrid grid.now event.what }
         requires room { length room.old ≡ length grid.now.nodes }
@@ -212,6 +268,6 @@ impl State {
             → IsFieldAt grid.now (event ∷ h) event.time.0 self.new }
         ensures same { (self.new.now ≡ self.old.now) × (self.new.applied ≡ self.old.applied) }
     {
-        self.perform(grid, event, room);
+        self.perform(grid, event, room, steps);
     }
 }

@@ -3,6 +3,8 @@ use crate::field::Field;
 use crate::state::State;
 use grid_model::{Event, Grid, NodeId, Refusal, What};
 use history_rules::{evidence_is_kept, history_is_timely, weights_stay_until_due};
+use std::sync::ledger::Ledger;
+use subtree_costs::Steps;
 use switching::decide;
 
 impl State {
@@ -20,9 +22,9 @@ impl State {
         ensures { result ≡ rule_in grid.now self.now.forest.closed what }
     {
         match what {
-            What::Confirm(d, _) if !self.forest.is_closed(d) => Some(Refusal::NotClosed),
-            What::Restore(d) if !self.forest.is_closed(d) => Some(Refusal::NotClosed),
-            What::Order(d, want) => decide(grid, &self.forest, d, want).err(),
+            What::Confirm(d, _) if !self.costs.forest().is_closed(d) => Some(Refusal::NotClosed),
+            What::Restore(d) if !self.costs.forest().is_closed(d) => Some(Refusal::NotClosed),
+            What::Order(d, want) => decide(grid, self.costs.forest(), d, want).err(),
             _ => None,
         }
     }
@@ -41,7 +43,13 @@ impl State {
     }
 
     // Takes an event that no rule refuses. There is room for all nodes.
-    pub(crate) fn take(&mut self, grid: &Grid, event: Event, room: &mut [NodeId])
+    pub(crate) fn take<L: Ledger>(
+        &mut self,
+        grid: &Grid,
+        event: Event,
+        room: &mut [NodeId],
+        steps: &mut Steps<L>,
+    )
         requires field { (h : List Event) × IsFieldAfter grid.now h self.old × (refusal_of grid.now h event ≡ None) }
         requires of_grid { IsOfGrid grid.now event.what }
         requires range { event.time.0 ≤ 253_402_300_799 }
@@ -54,8 +62,8 @@ impl State {
         evidence_is_kept();
         weights_stay_until_due();
         history_is_timely();
-        self.advance(grid, event.time);
-        self.act(grid, event, room);
+        self.advance(grid, event.time, steps);
+        self.act(grid, event, room, steps);
         self.clock = event.time;
         self.applied += 1;
     }
@@ -68,24 +76,30 @@ impl Field {
     ghost use Rattle.history_rules.specs.Posed.{IsOfGrid, refusal_of, joined};
     ghost use Rattle.field_state.specs.Fielded.{IsField, IsFieldAfter, answer_by};
 
-    /// Applies an event, unless a rule refuses it: then the field stays as it was.
+    /// Applies an event, unless a rule refuses it: then the field stays as it was, and no step is taken.
     ///
     /// `Backwards`: it is earlier than the event before it. `NotClosed`: it confirms or restores an
     /// open device. `Loop`: it closes an open device that closes a loop.
-    pub fn apply(&mut self, grid: &Grid, event: Event) -> Result<(), Refusal>
+    pub fn apply<L: Ledger>(
+        &mut self,
+        grid: &Grid,
+        event: Event,
+        steps: &mut Steps<L>,
+    ) -> Result<(), Refusal>
         requires field { IsField grid.now self.old }
         requires of_grid { IsOfGrid grid.now event.what }
         requires range { event.time.0 ≤ 253_402_300_799 }
         requires room { self.old.applied < 2 ^ 32 }
         ensures answer { (h : List Event) → IsFieldAfter grid.now h self.old → result ≡ answer_by (refusal_of grid.now h event) }
         ensures refused { (rule : Refusal) → result ≡ Err rule → self.new ≡ self.old }
+        ensures idle { (rule : Refusal) → result ≡ Err rule → steps.new ≡ steps.old }
         ensures after { (h : List Event) → IsFieldAfter grid.now h self.old → IsFieldAfter grid.now (joined grid.now h event) self.new }
         ensures field { IsField grid.now self.new }
     {
         if let Some(rule) = self.state.refusal(grid, event) {
             return Err(rule);
         }
-        self.state.take(grid, event, &mut self.below);
+        self.state.take(grid, event, &mut self.below, steps);
         Ok(())
     }
 }

@@ -2,12 +2,13 @@
 use crate::state::State;
 use evidence::{Evidence, Pull};
 use grid_model::{DeviceId, Mark, MeterId, NodeId, Stamp};
-use radial_forest::Forest;
 use std::marker::Model;
+use subtree_costs::CostForest;
 
-/// The state of a network after events: the clock and how many events were applied, the trees of
-/// the closed devices, the marks of the devices, what the reports of each meter weigh, the sums of
-/// those weights by node, and when each of all this changes next by the passing of time alone.
+/// The state of a network after events: the clock and how many events were applied, the least costs
+/// of its parts by the states and marks of the devices and the weights of the reports at each node,
+/// what is kept of the reports of each meter, and when each of all this changes next by the passing
+/// of time alone.
 #[derive(Drop)]
 pub struct Field {
     pub(crate) state: State,
@@ -53,7 +54,7 @@ impl Field {
         requires { d.0 < length self.now.forest.closed }
         ensures { result ≡ slice_index_or self.now.forest.closed d.0 false }
     {
-        self.state.forest.is_closed(d)
+        self.state.costs.forest().is_closed(d)
     }
 
     /// The mark of a device.
@@ -61,7 +62,7 @@ impl Field {
         requires { d.0 < length self.now.marks }
         ensures { result ≡ mark_at self.now.marks d.0 }
     {
-        self.state.marks[d.0 as usize]
+        self.state.costs.mark(d)
     }
 
     /// What the reports of a meter weigh now.
@@ -72,11 +73,12 @@ impl Field {
         self.state.evidence.pull(m)
     }
 
-    /// The trees of the closed devices.
-    pub fn forest(&self) -> &Forest
-        ensures { result.now ≡ self.now.forest }
+    /// The least costs of the parts of the network, with its states, its marks, and the weights of
+    /// the reports at its nodes.
+    pub fn costs(&self) -> &CostForest
+        ensures { result.now ≡ self.now.costs }
     {
-        &self.state.forest
+        &self.state.costs
     }
 
     /// What is kept of the reports.
@@ -84,33 +86,5 @@ impl Field {
         ensures { result.now ≡ self.now.evidence }
     {
         &self.state.evidence
-    }
-
-    /// By device, whether it is closed.
-    pub fn closed(&self) -> &[bool]
-        ensures { result.now ≡ self.now.forest.closed }
-    {
-        self.state.forest.closed()
-    }
-
-    /// By device, its mark.
-    pub fn marks(&self) -> &[Mark]
-        ensures { result.now ≡ self.now.marks }
-    {
-        &self.state.marks
-    }
-
-    /// By node, what the dark reports of its meters weigh.
-    pub fn dark_weights(&self) -> &[u64]
-        ensures { result.now ≡ self.now.dark }
-    {
-        &self.state.dark
-    }
-
-    /// By node, what the live reports of its meters weigh.
-    pub fn live_weights(&self) -> &[u64]
-        ensures { result.now ≡ self.now.live }
-    {
-        &self.state.live
     }
 }

@@ -5,6 +5,8 @@ use crate::state::State;
 use due_queue::DueQueue;
 use evidence::Pull;
 use grid_model::{DeviceId, Grid, Mark, MeterId, Stamp};
+use std::sync::ledger::Ledger;
+use subtree_costs::Steps;
 
 // Gives a key this time, or none.
 fn put_due(due: &mut DueQueue, key: u32, at: Option<Stamp>)
@@ -24,46 +26,66 @@ impl State {
     ghost use Rattle.history_rules.specs.Slots.{due_in};
     ghost use Rattle.evidence.specs.Kept.{kept_of, keeping, pull_by};
     ghost use Rattle.field_state.specs.FieldKept.{IsFieldKept, IsFieldAt};
+    ghost use Rattle.grid_model.specs.declared.history.Mark.TheVariants.{Nothing};
+    ghost use Rattle.subtree_costs.specs.Costed.{IsCosted};
+    ghost use Rattle.field_state.specs.Acted.{IsMarkedBy};
     ghost use Rattle.field_state.specs.Weighed.{IsWeighed, WasWeighed, KeepsRest, IsTallied, IsTalliedBut, dues};
 
     // Puts what the reports of a meter weigh now in place of what they weighed before, in the sums of
     // its node, and the time at which that changes next. The evidence is the new one already.
-    pub(crate) fn take_pull(&mut self, grid: &Grid, m: MeterId, before: Pull, after: Pull)
+    pub(crate) fn take_pull<L: Ledger>(
+        &mut self,
+        grid: &Grid,
+        m: MeterId,
+        before: Pull,
+        after: Pull,
+        steps: &mut Steps<L>,
+    )
+        requires costed { IsCosted grid.now self.old.costs }
         requires was { WasWeighed grid.now m.0 before self.old }
         requires weight { after ≡ pull_by grid.now m.0 (kept_of self.old.evidence m.0) }
         requires meter { m.0 < length grid.now.meters }
         requires due { m.0 < length self.old.due }
+        ensures costed { IsCosted grid.now self.new.costs }
         ensures weighed { IsWeighed grid.now self.new.evidence self.new.dark self.new.live }
         ensures due { self.new.due ≡ slice_set self.old.due m.0 (option_map (λ t. t.0) after.due) }
         ensures rest { KeepsRest self.old self.new }
     {
-        // A network is sound, so that the sums fit.
-        let _ = grid.meters();
-        let n = grid.meter(m).node.0 as usize;
-        self.dark[n] = self.dark[n] - before.dark + after.dark;
-        self.live[n] = self.live[n] - before.live + after.live;
+        let node = grid.meter(m).node;
+        let n = node.0 as usize;
+        let dark = self.costs.dark_weights()[n] - before.dark + after.dark;
+        let live = self.costs.live_weights()[n] - before.live + after.live;
+        self.costs.set_weights(grid, node, dark, live, steps);
         put_due(&mut self.due, m.0, after.due);
     }
 
-    // Marks a device, and puts the time at which that mark ends by itself.
-    pub(crate) fn take_mark(&mut self, grid: &Grid, d: DeviceId, mark: Mark, due: Option<Stamp>)
+    // Marks a device, which is closed where it is marked, and puts the time at which that mark ends by
+    // itself.
+    pub(crate) fn take_mark<L: Ledger>(
+        &mut self,
+        grid: &Grid,
+        d: DeviceId,
+        mark: Mark,
+        due: Option<Stamp>,
+        steps: &mut Steps<L>,
+    )
+        requires costed { IsCosted grid.now self.old.costs }
         requires device { d.0 < length grid.now.devices }
-        requires marks { length self.old.marks ≡ length grid.now.devices }
+        requires closed { slice_index_or self.old.forest.closed d.0 false ≡ false → mark ≡ Nothing }
         requires due { length self.old.due ≡ length grid.now.meters + length grid.now.devices }
-        ensures { self.new ≡ record self.old {
-          marks = slice_set self.old.marks d.0 mark;
-          due = slice_set self.old.due (length grid.now.meters + d.0) (option_map (λ t. t.0) due);
-        } }
+        ensures { IsMarkedBy grid.now d.0 mark (option_map (λ t. t.0) due) self.old self.new }
     {
-        self.marks[d.0 as usize] = mark;
+        self.costs.set_mark(grid, d, mark, steps);
         put_due(&mut self.due, grid.meters() + d.0, due);
     }
 
     // What is kept of a meter weighs as of this time, from where it had no time.
-    fn lapse(&mut self, grid: &Grid, m: MeterId, t: Stamp)
+    fn lapse<L: Ledger>(&mut self, grid: &Grid, m: MeterId, t: Stamp, steps: &mut Steps<L>)
+        requires costed { IsCosted grid.now self.old.costs }
         requires tallied { IsTalliedBut grid.now t.0 m.0 self.old }
         requires meter { m.0 < length grid.now.meters }
         requires range { t.0 ≤ 253_402_300_799 }
+        ensures costed { IsCosted grid.now self.new.costs }
         ensures tallied { IsTallied grid.now t.0 self.new }
         ensures kept { self.new.evidence ≡ keeping self.old.evidence m.0 (kept_of self.old.evidence m.0).slots t.0 }
         ensures due { self.new.due ≡ slice_set self.old.due m.0 (due_in grid.now m.0 t.0 (kept_of self.old.evidence m.0).slots) }
@@ -71,11 +93,11 @@ impl State {
     {
         let before = self.evidence.pull(m);
         let after = self.evidence.lapse(grid, m, t);
-        self.take_pull(grid, m, before, after);
+        self.take_pull(grid, m, before, after, steps);
     }
 
     // Takes one that is due at or before a time, if any is.
-    fn take_due(&mut self, grid: &Grid, t: Stamp) -> bool
+    fn take_due<L: Ledger>(&mut self, grid: &Grid, t: Stamp, steps: &mut Steps<L>) -> bool
         requires kept { (h : List Event) × IsFieldKept grid.now h t.0 self.old }
         requires range { t.0 ≤ 253_402_300_799 }
         ensures kept { (h : List Event) → IsFieldKept grid.now h t.0 self.old → IsFieldKept grid.now h t.0 self.new }
@@ -88,21 +110,21 @@ impl State {
         };
         let meters = grid.meters();
         if key < meters {
-            self.lapse(grid, MeterId(key), t);
+            self.lapse(grid, MeterId(key), t, steps);
         } else {
-            self.take_mark(grid, DeviceId(key - meters), Mark::Nothing, None);
+            self.take_mark(grid, DeviceId(key - meters), Mark::Nothing, None, steps);
         }
         true
     }
 
     // Takes all that is due at or before a time.
-    pub(crate) fn advance(&mut self, grid: &Grid, t: Stamp)
+    pub(crate) fn advance<L: Ledger>(&mut self, grid: &Grid, t: Stamp, steps: &mut Steps<L>)
         requires kept { (h : List Event) × IsFieldKept grid.now h self.old.now self.old }
         requires later { self.old.now ≤ t.0 }
         requires range { t.0 ≤ 253_402_300_799 }
         ensures at { (h : List Event) → IsFieldKept grid.now h self.old.now self.old → IsFieldAt grid.now h t.0 self.new }
         ensures same { (self.new.now ≡ self.old.now) × (self.new.applied ≡ self.old.applied) × (self.new.forest ≡ self.old.forest) }
     {
-        while self.take_due(grid, t) {}
+        while self.take_due(grid, t, steps) {}
     }
 }

@@ -12,6 +12,3 @@ mod state;
 
 pub use field::Field;
 pub use laws::field_poses;
-
-#[cfg(test)]
-mod tests;

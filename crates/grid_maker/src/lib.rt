@@ -12,6 +12,3 @@ mod texts;
 
 pub use laws::{storm_has_lines, texts_are_short};
 pub use texts::make;
-
-#[cfg(test)]
-mod tests;

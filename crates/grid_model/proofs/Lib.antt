@@ -3,6 +3,4 @@ pub mod Lookup
 pub mod SoundParts
 pub mod Grouping
 pub mod AtNodes
-pub mod SmallTrees
-pub mod SmallGrid
 pub mod Started

@@ -15,6 +15,3 @@ pub use laws::{network_is_sound, problem_is_sound, starting_network};
 pub use name::Name;
 pub use names::Names;
 pub use parts::{Device, DeviceId, GridParts, Kind, Meter, MeterId, NodeId, Setting};
-
-#[cfg(test)]
-mod tests;

@@ -9,9 +9,6 @@ use grid_model::{Line, MeterId, Stamp};
 use std::alloc::{AllocError, Global};
 use std::marker::Model;
 
-#[cfg(test)]
-mod tests;
-
 /// The interruptions of all meters. In contracts, what is kept of each meter's interruptions, and
 /// for how many more ended ones there is room.
 #[derive(Drop)]

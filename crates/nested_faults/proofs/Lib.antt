@@ -6,5 +6,3 @@ pub mod Tallying
 pub mod Listed
 pub mod Keeping
 pub mod Whole
-pub mod SmallGrids
-pub mod Judging

@@ -7,6 +7,3 @@ mod nested;
 mod tally;
 
 pub use nested::outages;
-
-#[cfg(test)]
-mod tests;

@@ -1,6 +1,6 @@
 //! The list of outages, by what is noted of the nodes and told of the devices.
 ghost use Rattle.std.specs.Prelude.{◌≡◌, ◌<◌, length, IfOk};
-ghost use Rattle.grid_model.specs.Sound.{IsSoundParts};
+ghost use Rattle.subtree_costs.specs.Costed.{IsCosted};
 ghost use Rattle.diagnosis.specs.Judgement.{IsSized};
 ghost use Rattle.nested_faults.specs.LastCuts.{noted_at};
 ghost use Rattle.nested_faults.specs.Listing.{hangs_by, upper_end, outage_in, outages_in};
@@ -9,28 +9,28 @@ use crate::tally::Tally;
 use diagnosis::Judged;
 use grid_model::{DeviceId, Grid, NodeId, Outage};
 use std::alloc::{AllocError, Global};
+use subtree_costs::CostForest;
 
 // Whether a node hangs by a device.
-fn hangs_by(judged: &Judged, n: NodeId, d: DeviceId) -> bool
-    requires { n.0 < length judged.now.dark }
-    ensures { result ≡ hangs_by judged.now n.0 d.0 }
+fn hangs_by(costs: &CostForest, n: NodeId, d: DeviceId) -> bool
+    requires { n.0 < length costs.now.forest.roots }
+    ensures { result ≡ hangs_by costs.now n.0 d.0 }
 {
-    match judged.parent(n) {
+    match costs.forest().parent(n) {
         Some(parent) => parent.0 == d.0,
         None => false,
     }
 }
 
 // The end of a device that doesn't hang by it.
-fn upper_end(grid: &Grid, judged: &Judged, d: DeviceId) -> NodeId
-    requires sound { IsSoundParts grid.now }
-    requires sized { IsSized (length grid.now.nodes) (length grid.now.devices) judged.now }
+fn upper_end(grid: &Grid, costs: &CostForest, d: DeviceId) -> NodeId
+    requires costed { IsCosted grid.now costs.now }
     requires device { d.0 < length grid.now.devices }
-    ensures end { result.0 ≡ upper_end grid.now judged.now d.0 }
+    ensures end { result.0 ≡ upper_end grid.now costs.now d.0 }
     ensures within { result.0 < length grid.now.nodes }
 {
     let device = grid.device(d);
-    if hangs_by(judged, device.from, d) {
+    if hangs_by(costs, device.from, d) {
         device.to
     } else {
         device.from
@@ -40,38 +40,36 @@ fn upper_end(grid: &Grid, judged: &Judged, d: DeviceId) -> NodeId
 // The last opened device on the walk to a device.
 fn cut_above(
     grid: &Grid,
-    judged: &Judged,
+    costs: &CostForest,
     last: &[Option<DeviceId>],
     d: DeviceId,
 ) -> Option<DeviceId>
-    requires sound { IsSoundParts grid.now }
-    requires sized { IsSized (length grid.now.nodes) (length grid.now.devices) judged.now }
+    requires costed { IsCosted grid.now costs.now }
     requires each { length last.now ≡ length grid.now.nodes }
     requires device { d.0 < length grid.now.devices }
-    ensures { result ≡ noted_at last.now (upper_end grid.now judged.now d.0) }
+    ensures { result ≡ noted_at last.now (upper_end grid.now costs.now d.0) }
 {
-    last[upper_end(grid, judged, d).0 as usize]
+    last[upper_end(grid, costs, d).0 as usize]
 }
 
 // The outage of an opened device.
 fn outage(
     grid: &Grid,
-    judged: &Judged,
+    costs: &CostForest,
     last: &[Option<DeviceId>],
     tallies: &[Tally],
     d: DeviceId,
 ) -> Outage
-    requires sound { IsSoundParts grid.now }
-    requires sized { IsSized (length grid.now.nodes) (length grid.now.devices) judged.now }
+    requires costed { IsCosted grid.now costs.now }
     requires each_node { length last.now ≡ length grid.now.nodes }
     requires each_device { length tallies.now ≡ length grid.now.devices }
     requires device { d.0 < length grid.now.devices }
-    ensures { result ≡ outage_in grid.now judged.now last.now tallies.now d.0 }
+    ensures { result ≡ outage_in grid.now costs.now last.now tallies.now d.0 }
 {
     let tally = tallies[d.0 as usize];
     Outage {
         device: d,
-        above: cut_above(grid, judged, last, d),
+        above: cut_above(grid, costs, last, d),
         meters: tally.meters,
         customers: tally.customers,
         since: tally.since,
@@ -83,19 +81,21 @@ fn outage(
 pub(crate) fn list_outages(
     alloc: Global,
     grid: &Grid,
+    costs: &CostForest,
     judged: &Judged,
     last: &[Option<DeviceId>],
     tallies: &[Tally],
 ) -> Result<Vec<Outage>, AllocError>
+    requires costed { IsCosted grid.now costs.now }
     requires sized { IsSized (length grid.now.nodes) (length grid.now.devices) judged.now }
     requires each_node { length last.now ≡ length grid.now.nodes }
     requires each_device { length tallies.now ≡ length grid.now.devices }
-    ensures { IfOk result (λ v. v.items ≡ outages_in grid.now judged.now last.now tallies.now (length grid.now.devices)) }
+    ensures { IfOk result (λ v. v.items ≡ outages_in grid.now costs.now judged.now last.now tallies.now (length grid.now.devices)) }
 {
     let mut outages = Vec::new(alloc);
     for d in 0..grid.devices() {
         if judged.is_opened(DeviceId(d)) {
-            outages.push(outage(grid, judged, last, tallies, DeviceId(d)))?;
+            outages.push(outage(grid, costs, last, tallies, DeviceId(d)))?;
         }
     }
     Ok(outages)

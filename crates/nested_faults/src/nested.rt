@@ -1,9 +1,9 @@
 //! The outages of a field that is judged.
 ghost use Rattle.std.specs.Prelude.{◌≡◌, List, IfOk};
 ghost use Rattle.grid_model.specs.declared.history.Event.{Event};
-ghost use Rattle.history_rules.specs.Posed.{problem_after, diagnosis_after};
+ghost use Rattle.history_rules.specs.Posed.{diagnosis_after};
 ghost use Rattle.history_rules.specs.Outages.{outages_after};
-ghost use Rattle.diagnosis.specs.Judgement.{IsOfNetwork, IsJudged, opened_by};
+ghost use Rattle.diagnosis.specs.Judgement.{opened_by};
 ghost use Rattle.field_state.specs.Fielded.{IsFieldAfter};
 ghost use Rattle.nested_faults.specs.JudgedField.{IsJudgedField};
 
@@ -11,10 +11,11 @@ use crate::cuts::last_cuts;
 use crate::listing::list_outages;
 use crate::tally::tallies;
 use diagnosis::Judged;
-use field_state::Field;
+use field_state::{Field, field_poses};
 use grid_model::{Grid, Outage};
 use history_rules::{evidence_is_kept, history_is_timely, problem_is_sound};
 use std::alloc::{AllocError, Global};
+use subtree_costs::fed_rows_are_exact;
 
 /// One outage for each device of the diagnosis, by device number: the last other one on the walk
 /// to it, and of the meters of which it is the last one on the walk, how many they are, how many
@@ -26,15 +27,17 @@ pub fn outages(
     field: &Field,
     judged: &Judged,
 ) -> Result<Vec<Outage>, AllocError>
-    requires field { IsJudgedField grid.now field.now judged.now }
-    requires own { IsOfNetwork grid.now judged.now }
-    ensures { IfOk result (λ v. (h : List Event) → IsFieldAfter grid.now h field.now → IsJudged (problem_after grid.now h) judged.now → opened_by judged.now ≡ diagnosis_after grid.now h
+    requires { IsJudgedField grid.now field.now judged.now }
+    ensures { IfOk result (λ v. (h : List Event) → IsFieldAfter grid.now h field.now → opened_by judged.now ≡ diagnosis_after grid.now h
         → v.items ≡ outages_after grid.now h (diagnosis_after grid.now h)) }
 {
-    let last = last_cuts(alloc, grid, judged)?;
+    let costs = field.costs();
+    let last = last_cuts(alloc, grid, costs, judged)?;
     let tallies = tallies(alloc, grid, field.evidence(), &last)?;
     evidence_is_kept();
     history_is_timely();
     problem_is_sound();
-    list_outages(alloc, grid, judged, &last, &tallies)
+    field_poses();
+    fed_rows_are_exact();
+    list_outages(alloc, grid, costs, judged, &last, &tallies)
 }

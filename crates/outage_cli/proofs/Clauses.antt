@@ -5,7 +5,8 @@ use Rattle.grid_reader.specs.declared.fault.GridRule.{GridRule}
 use Rattle.bound_table.specs.declared.bounds.BoundRule.{BoundRule}
 use Rattle.bound_checker.specs.declared.rules.CheckRule.{CheckRule}
 use Rattle.outage_ports.specs.Bytes.{Files}
-use Rattle.command_words.specs.Forms.{Command}
+use Rattle.command_words.specs.Forms.{Command, Trial}
+use Rattle.run_rules.specs.Trial.{EndsTrial}
 use Rattle.run_rules.specs.Run.{IsDone, IsInvalid, IsRefused, IsReportRefused, IsLimit, IsLeft, IsCut, IsPart, IsPartAtMost}
 use Rattle.engine_run.specs.Ended.{EndsAs, IsEnd}
 use Rattle.run_rules.specs.declared.status.Status.{Status}
@@ -74,3 +75,23 @@ unread_end (Some files) left out (Some command) = inl refl
 -- words that ask for something are of a form
 pub none_asked : (command : Option Command) (asked : Command) → command ≡ Some asked → command ≡ None → ⊥
 none_asked command asked some none = cc
+
+-- nor of another
+pub other_asked : (command : Option Command) (asked other : Command) → command ≡ Some asked → command ≡ Some other → asked ≡ other
+other_asked command asked other some more = cc
+
+pub one_trial : {n m : ℕ} → Trial n ≡ Trial m → n ≡ m
+one_trial e = cc
+
+-- a trial's end is one of its words
+pub trial_end : (files : Option Files) (left before now : Option (List ℕ)) (n : ℕ) (status : Status) → EndsTrial before now n status → IsEnd files left before now (Some (Trial n)) status
+trial_end None left before now n status end = tt
+trial_end (Some files) left before now n Done end = end
+trial_end (Some files) left before now n (Invalid rule) end = absurd end
+trial_end (Some files) left before now n Usage end = absurd end
+trial_end (Some files) left before now n ReadFault end = absurd end
+trial_end (Some files) left before now n WriteFault end = end
+trial_end (Some files) left before now n (NetworkRefused line rule) end = end
+trial_end (Some files) left before now n (ReportRefused line rule) end = absurd end
+trial_end (Some files) left before now n (Limit which) end = absurd end
+trial_end (Some files) left before now n Memory end = end

@@ -13,10 +13,12 @@ use Rattle.bound_table.specs.declared.bounds.BoundRule.{BoundRule}
 use Rattle.bound_checker.specs.declared.rules.Verdict.{Verdict}
 use Rattle.bound_checker.specs.declared.rules.Verdict.TheVariants as verdict
 use Rattle.outage_ports.specs.Bytes.{Files}
-use Rattle.command_words.specs.Forms.{Places, Command, Replay, Check}
+use Rattle.command_words.specs.Forms.{Places, Command, Replay, Check, Trial}
 use Rattle.run_rules.specs.Files.{most_network, most_events, most_report, IsTooLong, IsWithin, SaysNetwork, RefusesNetworkAt, HasEvents, HasTooManyLines, HasTooManyBytes, SaysBounds, RefusesReportAt}
 use Rattle.run_rules.specs.Told.{verdict_on}
-use Rattle.run_rules.specs.Run.{CanReplay, CanCheck, places_in, RefusesReport, IsOver, IsDue, status_of, Completes, IsComplete}
+use Rattle.grid_maker.specs.NetworkText.{network_text}
+use Rattle.run_rules.specs.Trial.{EndsTrial, CompletesTrial, MakesRefused}
+use Rattle.run_rules.specs.Run.{CanReplay, CanCheck, RefusesNetwork, RefusesReport, IsOverFiles, IsOver, IsDue, status_of, Completes, IsComplete}
 use Rattle.engine_run.specs.Ended.{EndsAs, IsEnd}
 use Rattle.run_rules.specs.declared.status.Status.{Status}
 use Rattle.run_rules.specs.declared.status.Status.TheVariants.{Done, Invalid, Usage, ReadFault, WriteFault, NetworkRefused, ReportRefused, Limit, Memory}
@@ -53,6 +55,18 @@ read_or_refused a line rule r p q = cc
 
 one_report_refusal : (line other : ℕ) (rule rival : BoundRule) (r : ReportReading) → r ≡ IsRefused line rule → r ≡ IsRefused other rival → ReportRefused line rule ≡ ReportRefused other rival
 one_report_refusal line other rule rival r p q = cc
+
+-- a trial over a network that is made is done, or memory ran out
+pub trial_completes : (before now : Option (List ℕ)) (n : ℕ) (status : Status) → EndsTrial before now n status → (status ≡ WriteFault → ⊥) → CompletesTrial n status
+trial_completes before now n Done end write parts is = inl refl
+trial_completes before now n (Invalid rule) end write parts is = absurd end
+trial_completes before now n Usage end write parts is = absurd end
+trial_completes before now n ReadFault end write parts is = absurd end
+trial_completes before now n WriteFault end write parts is = absurd (write refl)
+trial_completes before now n (NetworkRefused line rule) end write parts is = absurd (grid_or_refused parts line rule (grid_text (network_text n)) is end)
+trial_completes before now n (ReportRefused line rule) end write parts is = absurd end
+trial_completes before now n (Limit which) end write parts is = absurd end
+trial_completes before now n Memory end write parts is = inr refl
 
 module _ (files : Files) where
   module _ (name : List ℕ) where
@@ -112,12 +126,19 @@ module _ (files : Files) where
         (sym (ap (λ p. report_reading p q.bytes) e) ∙ sym (ap (report_reading g) (one_text p.bytes q.bytes (files name) p.file.are q.file.are)) ∙ p.refused) q.refused
 
   -- a refused network has no other cause
-  refused_or_over : (command : Command) (line : ℕ) (rule : GridRule) (which : Which) → RefusesNetworkAt files (places_in command).net line rule → IsOver files command which → ⊥
-  refused_or_over command line rule NetworkBytes r o = not_long files (places_in command).net r.bytes most_network r.file o
-  refused_or_over command line rule EventLines r o = says_or_refused (places_in command).net o.parts line rule o.network r
-  refused_or_over command line rule EventBytes r o = says_or_refused (places_in command).net o.parts line rule o.network r
-  refused_or_over (Replay places wish) line rule ReportBytes r o = absurd o
+  refused_or_over_files : (places : Places) (line : ℕ) (rule : GridRule) (which : Which) → RefusesNetworkAt files places.net line rule → IsOverFiles files places which → ⊥
+  refused_or_over_files places line rule NetworkBytes r o = not_long files places.net r.bytes most_network r.file o
+  refused_or_over_files places line rule EventLines r o = says_or_refused places.net o.parts line rule o.network r
+  refused_or_over_files places line rule EventBytes r o = says_or_refused places.net o.parts line rule o.network r
+  refused_or_over_files places line rule ReportBytes r o = absurd o
+
+  refused_or_over : (command : Command) (line : ℕ) (rule : GridRule) (which : Which) → RefusesNetwork files command line rule → IsOver files command which → ⊥
+  refused_or_over (Replay places wish) line rule which r o = refused_or_over_files places line rule which r o
+  refused_or_over (Check places report) line rule NetworkBytes r o = refused_or_over_files places line rule NetworkBytes r o
+  refused_or_over (Check places report) line rule EventLines r o = refused_or_over_files places line rule EventLines r o
+  refused_or_over (Check places report) line rule EventBytes r o = refused_or_over_files places line rule EventBytes r o
   refused_or_over (Check places report) line rule ReportBytes r o = says_or_refused places.net o.0.parts line rule o.0.network r
+  refused_or_over (Trial n) line rule which r o = absurd o
 
   -- what can be replayed meets no limit of its files
   can_or_refused : (places : Places) (line : ℕ) (rule : GridRule) → CanReplay files places → RefusesNetworkAt files places.net line rule → ⊥
@@ -163,32 +184,46 @@ module _ (files : Files) where
   network_or_later : (places : Places) (g : Parts) → SaysNetwork files places.net g → IsTooLong files places.net most_network → ⊥
   network_or_later places g says long = not_long files places.net says.bytes most_network says.file long
 
+  one_files_limit : (places : Places) (a b : Which) → IsOverFiles files places a → IsOverFiles files places b → Limit a ≡ Limit b
+  one_files_limit places NetworkBytes NetworkBytes p q = refl
+  one_files_limit places NetworkBytes EventLines p q = absurd (network_or_later places q.parts q.network p)
+  one_files_limit places NetworkBytes EventBytes p q = absurd (network_or_later places q.parts q.network p)
+  one_files_limit places NetworkBytes ReportBytes p q = absurd q
+  one_files_limit places EventLines NetworkBytes p q = absurd (network_or_later places p.parts p.network q)
+  one_files_limit places EventLines EventLines p q = refl
+  one_files_limit places EventLines EventBytes p q = absurd (many_or_more places.events p.bytes q.bytes p.many q.long)
+  one_files_limit places EventLines ReportBytes p q = absurd q
+  one_files_limit places EventBytes NetworkBytes p q = absurd (network_or_later places p.parts p.network q)
+  one_files_limit places EventBytes EventLines p q = absurd (many_or_more places.events q.bytes p.bytes q.many p.long)
+  one_files_limit places EventBytes EventBytes p q = refl
+  one_files_limit places EventBytes ReportBytes p q = absurd q
+  one_files_limit places ReportBytes b p q = absurd p
+
   one_limit : (command : Command) (a b : Which) → IsOver files command a → IsOver files command b → Limit a ≡ Limit b
-  one_limit command NetworkBytes NetworkBytes p q = refl
-  one_limit command EventLines EventLines p q = refl
-  one_limit command EventBytes EventBytes p q = refl
-  one_limit command ReportBytes ReportBytes p q = refl
-  one_limit command NetworkBytes EventLines p q = absurd (network_or_later (places_in command) q.parts q.network p)
-  one_limit command NetworkBytes EventBytes p q = absurd (network_or_later (places_in command) q.parts q.network p)
-  one_limit (Replay places wish) NetworkBytes ReportBytes p q = absurd q
+  one_limit (Replay places wish) a b p q = one_files_limit places a b p q
+  one_limit (Check places report) ReportBytes ReportBytes p q = refl
   one_limit (Check places report) NetworkBytes ReportBytes p q = absurd (can_or_long places q.0 p)
-  one_limit command EventLines NetworkBytes p q = absurd (network_or_later (places_in command) p.parts p.network q)
-  one_limit command EventLines EventBytes p q = absurd (many_or_more (places_in command).events p.bytes q.bytes p.many q.long)
-  one_limit (Replay places wish) EventLines ReportBytes p q = absurd q
   one_limit (Check places report) EventLines ReportBytes p q = absurd (few_or_many places.events q.0.events p.bytes q.0.event_file p.many)
-  one_limit command EventBytes NetworkBytes p q = absurd (network_or_later (places_in command) p.parts p.network q)
-  one_limit command EventBytes EventLines p q = absurd (many_or_more (places_in command).events q.bytes p.bytes q.many p.long)
-  one_limit (Replay places wish) EventBytes ReportBytes p q = absurd q
   one_limit (Check places report) EventBytes ReportBytes p q = absurd (few_or_more places.events q.0.events p.bytes q.0.event_file p.long)
-  one_limit (Replay places wish) ReportBytes b p q = absurd p
   one_limit (Check places report) ReportBytes NetworkBytes p q = absurd (can_or_long places p.0 q)
   one_limit (Check places report) ReportBytes EventLines p q = absurd (few_or_many places.events p.0.events q.bytes p.0.event_file q.many)
   one_limit (Check places report) ReportBytes EventBytes p q = absurd (few_or_more places.events p.0.events q.bytes p.0.event_file q.long)
+  one_limit (Check places report) NetworkBytes NetworkBytes p q = refl
+  one_limit (Check places report) NetworkBytes EventLines p q = one_files_limit places NetworkBytes EventLines p q
+  one_limit (Check places report) NetworkBytes EventBytes p q = one_files_limit places NetworkBytes EventBytes p q
+  one_limit (Check places report) EventLines NetworkBytes p q = one_files_limit places EventLines NetworkBytes p q
+  one_limit (Check places report) EventLines EventLines p q = refl
+  one_limit (Check places report) EventLines EventBytes p q = one_files_limit places EventLines EventBytes p q
+  one_limit (Check places report) EventBytes NetworkBytes p q = one_files_limit places EventBytes NetworkBytes p q
+  one_limit (Check places report) EventBytes EventLines p q = one_files_limit places EventBytes EventLines p q
+  one_limit (Check places report) EventBytes EventBytes p q = refl
+  one_limit (Trial n) a b p q = absurd p
 
   module _ (left before now : Option (List ℕ)) where
     -- which limit is owed
     over_owed : (command : Command) (status : Status) → EndsAs files left before now command status → (status ≡ ReadFault → ⊥) →
         (which : Which) → IsOver files command which → (status ≡ Limit which) ⊎ ((status ≡ Memory) ⊎ (status ≡ WriteFault))
+    over_owed (Trial n) status end read which o = absurd o
     over_owed (Replay places wish) Done end read which o = absurd (replay_or_over places wish which end.can o)
     over_owed (Check places report) Done end read which o = absurd (check_or_over places report verdict.Valid which end.can o)
     over_owed (Replay places wish) (Invalid rule) end read which o = absurd end
@@ -202,9 +237,23 @@ module _ (files : Files) where
     over_owed command (Limit a) end read which o = inl (one_limit command a which end.0 o)
     over_owed command Memory end read which o = inr (inl refl)
 
+    -- which refusal of the network that is made
+    trial_network_owed : (n : ℕ) (status : Status) → EndsAs files left before now (Trial n) status → (status ≡ ReadFault → ⊥) →
+        (line : ℕ) (rule : GridRule) → MakesRefused n line rule → (status ≡ NetworkRefused line rule) ⊎ (status ≡ Memory)
+    trial_network_owed n Done end read line rule r = absurd (grid_or_refused end.parts line rule (grid_text (network_text n)) end.network r)
+    trial_network_owed n (Invalid broken) end read line rule r = absurd end
+    trial_network_owed n Usage end read line rule r = absurd end
+    trial_network_owed n ReadFault end read line rule r = absurd (read refl)
+    trial_network_owed n WriteFault end read line rule r = absurd (grid_or_refused end.parts line rule (grid_text (network_text n)) end.network r)
+    trial_network_owed n (NetworkRefused other rival) end read line rule r = inl (one_grid_refusal other line rival rule (grid_text (network_text n)) end r)
+    trial_network_owed n (ReportRefused other rival) end read line rule r = absurd end
+    trial_network_owed n (Limit which) end read line rule r = absurd end.0
+    trial_network_owed n Memory end read line rule r = inr refl
+
     -- which refusal of the network
     network_owed : (command : Command) (status : Status) → EndsAs files left before now command status → (status ≡ ReadFault → ⊥) →
-        (line : ℕ) (rule : GridRule) → RefusesNetworkAt files (places_in command).net line rule → (status ≡ NetworkRefused line rule) ⊎ (status ≡ Memory)
+        (line : ℕ) (rule : GridRule) → RefusesNetwork files command line rule → (status ≡ NetworkRefused line rule) ⊎ (status ≡ Memory)
+    network_owed (Trial n) status end read line rule r = trial_network_owed n status end read line rule r
     network_owed (Replay places wish) Done end read line rule r = absurd (can_or_refused places line rule end.can r)
     network_owed (Check places report) Done end read line rule r = absurd (says_or_refused places.net end.can.parts line rule end.can.network r)
     network_owed (Replay places wish) (Invalid broken) end read line rule r = absurd end
@@ -213,7 +262,8 @@ module _ (files : Files) where
     network_owed command ReadFault end read line rule r = absurd (read refl)
     network_owed (Replay places wish) WriteFault end read line rule r = absurd (says_or_refused places.net end.can.parts line rule end.can.network r)
     network_owed (Check places report) WriteFault end read line rule r = absurd (says_or_refused places.net end.can.parts line rule end.can.network r)
-    network_owed command (NetworkRefused other rival) end read line rule r = inl (refused_once (places_in command).net other line rival rule end r)
+    network_owed (Replay places wish) (NetworkRefused other rival) end read line rule r = inl (refused_once places.net other line rival rule end r)
+    network_owed (Check places report) (NetworkRefused other rival) end read line rule r = inl (refused_once places.net other line rival rule end r)
     network_owed (Replay places wish) (ReportRefused other rival) end read line rule r = absurd end
     network_owed (Check places report) (ReportRefused other rival) end read line rule r = absurd (can_or_refused places line rule end.0 r)
     network_owed command (Limit a) end read line rule r = absurd (refused_or_over command line rule a r end.0)
@@ -223,6 +273,7 @@ module _ (files : Files) where
     report_owed : (command : Command) (status : Status) → EndsAs files left before now command status → (status ≡ ReadFault → ⊥) →
         (line : ℕ) (rule : BoundRule) → RefusesReport files command line rule → (status ≡ ReportRefused line rule) ⊎ (status ≡ Memory)
     report_owed (Replay places wish) status end read line rule r = absurd r
+    report_owed (Trial n) status end read line rule r = absurd r
     report_owed (Check places report) Done end read line rule r = absurd (check_or_refused places report verdict.Valid line rule end.can r)
     report_owed (Check places report) (Invalid broken) end read line rule r = absurd (check_or_refused places report (verdict.Invalid broken end.0) line rule end.1.can r)
     report_owed (Check places report) Usage end read line rule r = absurd end
@@ -259,9 +310,22 @@ module _ (files : Files) where
     check_completes places report (Limit which) end read write v can = absurd (check_or_over places report v which can end.0)
     check_completes places report Memory end read write v can = inr refl
 
+    -- a trial's end is the same whatever the files are
+    trial_ended : (n : ℕ) (status : Status) → EndsAs files left before now (Trial n) status → EndsTrial before now n status
+    trial_ended n Done end = end
+    trial_ended n (Invalid rule) end = absurd end
+    trial_ended n Usage end = absurd end
+    trial_ended n ReadFault end = absurd end
+    trial_ended n WriteFault end = end
+    trial_ended n (NetworkRefused line rule) end = end
+    trial_ended n (ReportRefused line rule) end = absurd end
+    trial_ended n (Limit which) end = absurd end.0
+    trial_ended n Memory end = end
+
     completes : (command : Command) (status : Status) → EndsAs files left before now command status → (status ≡ ReadFault → ⊥) → (status ≡ WriteFault → ⊥) → Completes files command status
     completes (Replay places wish) status end read write = replay_completes places wish status end read write
     completes (Check places report) status end read write = check_completes places report status end read write
+    completes (Trial n) status end read write = trial_completes before now n status (trial_ended n status end) write
 
 -- a run that ends so is complete
 pub end_complete : (files : Option Files) (left before now : Option (List ℕ)) (command : Option Command) (status : Status) →

@@ -3,7 +3,7 @@ use Rattle.std.proofs.Common.{◌≡◌, ℕ, List, Option, None, Some, inl, inr
 use Rattle.bound_table.specs.Tight.{tight_bounds}
 use Rattle.bound_checker.specs.declared.rules.Verdict.TheVariants.{Valid}
 use Rattle.outage_ports.specs.Bytes.{Files}
-use Rattle.command_words.specs.Forms.{Places, Command, Replay, Check}
+use Rattle.command_words.specs.Forms.{Places, Command, Replay, Check, Trial}
 use Rattle.run_rules.specs.Told.{last_problem}
 use Rattle.run_rules.specs.Run.{CanCheck, IsDone, IsComplete}
 use Rattle.replay_laws.specs.RoundTrip.{ReplayIsValid}
@@ -32,6 +32,7 @@ pub own_confirmed : (files : Option Files) (left before now : Option (List ℕ))
 own_confirmed None left before now command status law complete done = tt
 own_confirmed (Some files) left before now None status law complete done = tt
 own_confirmed (Some files) left before now (Some (Replay places wish)) status law complete done = tt
+own_confirmed (Some files) left before now (Some (Trial n)) status law complete done = tt
 own_confirmed (Some files) left before now (Some (Check places report)) status law complete done = λ own.
     ⊎_elim
     (λ e. inl (record { done = e; written = (done e).written }))

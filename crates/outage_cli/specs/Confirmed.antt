@@ -3,7 +3,7 @@ use Rattle.std.specs.Prelude.{◌≡◌, ◌⊎◌, ⊤, ℕ, true, List, [], �
 use Rattle.std.specs.Io.KnownBytes.{Appends}
 use Rattle.event_rules.specs.Rows.{row}
 use Rattle.outage_ports.specs.Bytes.{Files}
-use Rattle.command_words.specs.Forms.{Places, Command, Replay, Check}
+use Rattle.command_words.specs.Forms.{Places, Command, Replay, Check, Trial}
 use Rattle.command_words.specs.declared.words.Wish.{Wish}
 use Rattle.run_rules.specs.Files.{most_report, IsWithin}
 use Rattle.run_rules.specs.Told.{output}
@@ -26,6 +26,7 @@ pub record SaysValid (before now : Option (List ℕ)) (status : Status) : Type 0
 -- the check of such a report says so, or memory ran out
 abbrev pub Confirms : Files → Option (List ℕ) → Option (List ℕ) → Command → Status → Type 0
 Confirms files before now (Replay places wish) status = ⊤
+Confirms files before now (Trial n) status = ⊤
 Confirms files before now (Check places report) status = HasOwnReport files places report → SaysValid before now status ⊎ (status ≡ Memory)
 
 abbrev pub IsOwnConfirmed : Option Files → Option (List ℕ) → Option (List ℕ) → Option Command → Status → Type 0

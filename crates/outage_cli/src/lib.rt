@@ -12,4 +12,6 @@ mod as_library;
 #[cfg(test)]
 mod tests;
 #[cfg(test)]
+mod trial_runs;
+#[cfg(test)]
 mod worked_runs;

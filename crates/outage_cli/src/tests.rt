@@ -25,11 +25,15 @@ pub(crate) struct Case {
     pub(crate) written: &'static str,
 }
 
-fn file(alloc: Global, name: &str, text: &[u8]) -> Result<(String, Vec<u8>), AllocError> {
+pub(crate) fn file(
+    alloc: Global,
+    name: &str,
+    text: &[u8],
+) -> Result<(String, Vec<u8>), AllocError> {
     Ok((String::from_str(alloc, name)?, text.to_vec(alloc)?))
 }
 
-fn words(alloc: Global, texts: &[&str]) -> Result<Vec<String>, AllocError> {
+pub(crate) fn words(alloc: Global, texts: &[&str]) -> Result<Vec<String>, AllocError> {
     let mut all = Vec::new(alloc);
     for text in texts {
         all.push(String::from_str(alloc, text)?)?;
@@ -53,7 +57,7 @@ fn shelf(
 }
 
 // The status of the top call over files and an output in memory.
-fn call_main(
+pub(crate) fn call_main(
     alloc: Global,
     words: &[String],
     files: &mut MemoryShelf,
@@ -277,6 +281,7 @@ fn writes_nothing(rt: HostRuntime) -> Result<(), Fail> {
     run_idle(&rt, alloc, &["outage", "replay", "n"], Status::Usage)?;
     run_idle(&rt, alloc, &["outage", "replay", "n", "-e"], Status::Usage)?;
     run_idle(&rt, alloc, &["outage", "trial", "0"], Status::Usage)?;
+    run_idle(&rt, alloc, &["outage", "trial", "101"], Status::Usage)?;
     run_idle(&rt, alloc, &["outage"], Status::Usage)?;
     Ok(())
 }

@@ -1,10 +1,10 @@
 -- What is judged is the tight bounds.
-use Rattle.std.proofs.Common.{◌≡◌, ℕ, ◌<◌, Bool, true, false, cond, refl, sym, ap, ◌∙◌, arith, List, [], ◌∷◌, map, Option, Some, None, is_some}
+use Rattle.std.proofs.Common.{◌≡◌, ℕ, ◌<◌, Bool, true, false, cond, refl, sym, ap, ◌∙◌, arith, List, [], ◌∷◌, map, Option, Some, None, is_some, length}
 use Rattle.std.specs.Prelude.{◌&&◌, not}
 use Rattle.std.specs.List.{filter, range_with_len}
 use Rattle.std.proofs.lemmas.Bool.{false≢true}
 use Rattle.outage_rules.specs.Network.{Problem, IsSound, IsRadial}
-use Rattle.outage_rules.specs.Diagnosis.{cost, IsDiagnosis}
+use Rattle.outage_rules.specs.Diagnosis.{IsLeastCost}
 use Rattle.outage_rules.specs.Certificate.{has_parent}
 use Rattle.outage_rules.specs.Agreement.{AgreeAt}
 use Rattle.outage_rules.specs.Reference as reference
@@ -13,16 +13,18 @@ use Rattle.outage_rules.proofs.Agreement.{agree_at}
 use Rattle.outage_rules.proofs.Cautious.{only_one}
 use Rattle.outage_rules.proofs.Computed.{exact_table, computed}
 use Rattle.outage_rules.proofs.Exists.{greedy_opens}
-use Rattle.outage_rules.proofs.Flags.{flags_are_diagnosis}
 use Rattle.outage_rules.proofs.Least.{one_least, least_is_least}
 use Rattle.grid_model.specs.declared.parts.NodeId.{NodeId}
 use Rattle.grid_model.specs.declared.parts.DeviceId.{DeviceId}
 use Rattle.radial_forest.specs.Traversed.{parent_in, number_of_device}
-use Rattle.diagnosis.specs.Judgement.{Judgement, IsJudged, table_of, opened_by, is_dark_by, flagged}
+use Rattle.grid_model.specs.Parts.{Parts}
+use Rattle.subtree_costs.specs.Costed.{Costed, IsCosted, problem_in}
+use Rattle.subtree_costs.specs.Laws.{fed_rows, AreFedRows}
+use Rattle.diagnosis.specs.Judgement.{Judgement, IsJudged, TellsDiagnosis, opened_by, flagged}
 use Rattle.bound_table.specs.declared.bounds.BoundRow.{BoundRow}
 use Rattle.bound_table.specs.Table.{Table}
 use Rattle.bound_table.specs.Tight.{row_at, cuts_of, rows_of, tight_bounds}
-use Rattle.outage_engine.specs.Bounding.{is_fed, judged_row, judged_rows}
+use Rattle.outage_engine.specs.Bounding.{is_fed, AreDepths, kept_row, kept_rows}
 use Rattle.outage_engine.proofs.BoundingLists.{same_listed}
 
 -- a device by its number
@@ -60,32 +62,36 @@ pub no_row : (fed : Bool) (row : BoundRow) → None ≡ cond fed (Some row) None
 no_row true row e = absurd (cc)
 no_row false row e = refl
 
-module _ (p : Problem) (j : Judgement) (sound : IsSound p) (radial : IsRadial p.net) (judged : IsJudged p j) where
-  agree : (n : ℕ) → n < p.nodes → AgreeAt p.net (table_of j) (reference.table_of p) n
+module _ (g : Parts) (c : Costed) (j : Judgement) (depths : List ℕ) (costed : IsCosted g c) (sound : IsSound (problem_in g c)) (fed : AreFedRows g c)
+    (judged : IsJudged g c j) (tells : TellsDiagnosis (problem_in g c) j) (deep : AreDepths g c depths) where
+  abbrev p : Problem
+  p = problem_in g c
+
+  radial : IsRadial p.net
+  radial = costed.posed.forest.radial
+
+  agree : (n : ℕ) → n < p.nodes → AgreeAt p.net (fed_rows g c) (reference.table_of p) n
   agree = let exact = exact_table p sound radial in
-      agree_at p (table_of j) (reference.table_of p) sound radial judged.forest exact.0 judged.rows exact.1
+      agree_at p (fed_rows g c) (reference.table_of p) sound radial fed.forest exact.0 fed.rows exact.1
 
   -- the row of a fed node
-  row_is : (n : ℕ) → n < p.nodes → is_fed j n ≡ true → judged_row j n ≡ row_at p (reference.table_of p) n
-  row_is n l fed =
+  row_is : (n : ℕ) → n < p.nodes → is_fed g c n ≡ true → kept_row c depths n ≡ row_at p (reference.table_of p) n
+  row_is n l is =
       let same = agree n l in
-      let hangs : has_parent p.net (table_of j) n ≡ (true && not (p.is_source n)) = ap (λ b. b && not (p.is_source n)) fed in
+      let hangs : has_parent p.net (fed_rows g c) n ≡ (true && not (p.is_source n)) = ap (λ b. b && not (p.is_source n)) is in
       same_row _ _ _ _ _ _ _ _ _
-      (parent_is (parent_in j.parents n) (p.is_source n) ((reference.table_of p).parent n) (judged.parents n l ∙ hangs) (λ e. same.parent (hangs ∙ e)))
-      (same.depth fed) (same.live fed) (same.dark fed)
+      (parent_is (parent_in c.forest.parents n) (p.is_source n) ((reference.table_of p).parent n) (fed.parents n l is) (λ e. same.parent (hangs ∙ e)))
+      (deep.depth n l ∙ same.depth is) (same.live is) (same.dark is)
 
-  rows_are : judged_rows j p.nodes ≡ rows_of p (reference.table_of p)
-  rows_are = same_listed (is_fed j) (reference.table_of p).is_listed (judged_row j) (row_at p (reference.table_of p)) 0 p.nodes
-      (λ n l. (agree n (omega arith)).listed) (λ n l fed. row_is n (omega arith) fed)
-
-  diagnosis : IsDiagnosis p (opened_by j)
-  diagnosis = flags_are_diagnosis p (table_of j) (opened_by j) (is_dark_by j) sound judged.forest judged.rows judged.flags
+  rows_are : kept_rows g c depths p.nodes ≡ rows_of p (reference.table_of p)
+  rows_are = same_listed (is_fed g c) (reference.table_of p).is_listed (kept_row c depths) (row_at p (reference.table_of p)) 0 p.nodes
+      (λ n l. (agree n (omega arith)).listed) (λ n l is. row_is n (omega arith) is)
 
   opened_is : (d : ℕ) → d < p.devices → opened_by j d ≡ reference_cut p d
   opened_is d l =
       let t = reference.table_of p in
       let exact = exact_table p sound radial in
-      only_one p t sound exact.0 exact.1 (greedy p t) (greedy_opens p t sound exact.0) (opened_by j) (reference_cut p) diagnosis (computed p sound radial) d l
+      only_one p t sound exact.0 exact.1 (greedy p t) (greedy_opens p t sound exact.0) (opened_by j) (reference_cut p) tells.diagnosis (computed p sound radial) d l
 
   cuts_are : (cuts : List DeviceId) → map (λ d. d.0) cuts ≡ flagged j.opened → cuts ≡ cuts_of p
   cuts_are cuts listed =
@@ -94,21 +100,14 @@ module _ (p : Problem) (j : Judgement) (sound : IsSound p) (radial : IsRadial p.
       ∙ ap (λ n. map device (filter (opened_by j) (range_with_len 0 n))) judged.sized.opened
       ∙ same_listed (opened_by j) (reference_cut p) device device 0 p.devices (λ d l. opened_is d (omega arith)) (λ d l e. refl)
 
-  cost_is : j.cost ≡ least_cost p
-  cost_is =
-      judged.cost
-      ∙ one_least p (cost p (opened_by j)) (least_cost p)
-      (record { attained = (opened_by j, diagnosis.least.feasible, refl); least = diagnosis.least.least })
-      (least_is_least p sound radial)
-
-  -- the cost, the devices and the rows that were judged
-  pub tight_is : (cuts : List DeviceId) (rows : List BoundRow) (nodes : ℕ) → nodes ≡ p.nodes → map (λ d. d.0) cuts ≡ flagged j.opened → rows ≡ judged_rows j nodes
-      → ◌≡◌ {A = Table} (record { cost = j.cost; cuts = cuts; rows = rows }) (tight_bounds p)
+  -- the least cost, the devices and the rows
+  pub tight_is : (cost : ℕ) (cuts : List DeviceId) (rows : List BoundRow) → cost ≡ c.total → IsLeastCost p c.total → map (λ d. d.0) cuts ≡ flagged j.opened
+      → rows ≡ kept_rows g c depths (length g.nodes) → ◌≡◌ {A = Table} (record { cost = cost; cuts = cuts; rows = rows }) (tight_bounds p)
   unfolding tight_bounds
-  tight_is cuts rows nodes each listed made =
-      ap (table_with j.cost cuts) (made ∙ ap (judged_rows j) each ∙ rows_are)
-      ∙ ap (λ c. table_with j.cost c (rows_of p (reference.table_of p))) (cuts_are cuts listed)
-      ∙ ap (λ c. table_with c (cuts_of p) (rows_of p (reference.table_of p))) cost_is
+  tight_is cost cuts rows is least listed made =
+      ap (table_with cost cuts) (made ∙ rows_are)
+      ∙ ap (λ x. table_with cost x (rows_of p (reference.table_of p))) (cuts_are cuts listed)
+      ∙ ap (λ x. table_with x (cuts_of p) (rows_of p (reference.table_of p))) (is ∙ one_least p c.total (least_cost p) least (least_is_least p sound radial))
     where
       table_with : ℕ → List DeviceId → List BoundRow → Table
       table_with cost cuts rows = record { cost = cost; cuts = cuts; rows = rows }

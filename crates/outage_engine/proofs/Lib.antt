@@ -1,6 +1,6 @@
+pub mod Depths
 pub mod BoundingLists
 pub mod BoundingRows
 pub mod BoundingRange
 pub mod AfterEvents
-pub mod NoEvents
 pub mod Recorded

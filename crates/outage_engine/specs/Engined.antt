@@ -6,7 +6,7 @@ use Rattle.grid_model.specs.declared.history.Refusal.{Refusal}
 use Rattle.history_rules.specs.State.{now}
 use Rattle.history_rules.specs.StampTexts.{last_second}
 use Rattle.history_rules.specs.Posed.{problem_after, least_after, diagnosis_after, joined}
-use Rattle.diagnosis.specs.Judgement.{Judgement, IsJudged, IsOfNetwork, TellsDark, opened_by}
+use Rattle.diagnosis.specs.Judgement.{Judgement, IsJudged, TellsDark, opened_by}
 use Rattle.history_rules.specs.Ledger.{is_judged_dark, interrupted_of}
 use Rattle.field_state.specs.Fielded.{Fielded, IsFieldAfter}
 use Rattle.interruption_ledger.specs.Ledgered.{Ledgered, interrupted_at}
@@ -22,16 +22,15 @@ pub record Engined : Type 0 where
 pub record IsInRange (h : List Event) : Type 0 where
   pub last : now h ≤ last_second
 
--- the field is that of the events, and the judgement that of the problem that they pose: its devices are the diagnosis, which leaves the flagged nodes dark,
--- and its cost is the least; and the ledger is that of all judgements
+-- the field is that of the events, and the judgement agrees with its rows: its devices are the diagnosis, which leaves the flagged nodes dark,
+-- and the total of the rows is the least cost; and the ledger is that of all judgements
 pub record IsEngineAfter (h : List Event) (e : Engined) : Type 0 where
   pub field : IsFieldAfter e.grid h e.field
   pub range : IsInRange h
-  pub own : IsOfNetwork e.grid e.judged
-  pub judged : IsJudged (problem_after e.grid h) e.judged
+  pub judged : IsJudged e.grid e.field.costs e.judged
   pub opened : opened_by e.judged ≡ diagnosis_after e.grid h
   pub dark : TellsDark (problem_after e.grid h) e.judged
-  pub cost : e.judged.cost ≡ least_after e.grid h
+  pub cost : e.field.costs.total ≡ least_after e.grid h
   pub ledger_each : length e.ledger.meters ≡ length e.grid.meters
   pub ledger : (m : ℕ) → m < length e.grid.meters → interrupted_at e.ledger m ≡ interrupted_of m (is_judged_dark e.grid m) h
 

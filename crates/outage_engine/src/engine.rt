@@ -14,6 +14,8 @@ use interruption_ledger::{Ledger, ledger_is_kept};
 use outage_rules::{diagnosis_is_one, one_least_cost};
 use std::alloc::{AllocError, Global};
 use std::marker::Model;
+use std::sync::ledger::Ledger as Counter;
+use subtree_costs::{Steps, fed_rows_are_exact, total_is_least};
 
 /// A network with the state of its field after events, the diagnosis of that state, and the
 /// interruptions of its meters.
@@ -40,7 +42,7 @@ impl Engine {
     ghost use Rattle.grid_model.specs.declared.history.Event.{Event};
     ghost use Rattle.grid_model.specs.declared.history.Refusal.{Refusal};
     ghost use Rattle.history_rules.specs.Posed.{problem_after, refusal_of, joined, IsOfGrid};
-    ghost use Rattle.diagnosis.specs.Judgement.{IsOfNetwork, IsSized, differences};
+    ghost use Rattle.diagnosis.specs.Judgement.{IsSized, differences};
     ghost use Rattle.bound_table.specs.Tight.{tight_bounds};
     ghost use Rattle.bound_table.specs.Sound.{IsTableOf};
     ghost use Rattle.field_state.specs.Fielded.{IsFieldAfter, IsField};
@@ -57,8 +59,10 @@ impl Engine {
         history_is_diagnosed();
         diagnosis_is_one();
         one_least_cost();
+        fed_rows_are_exact();
+        total_is_least();
         let field = Field::new(alloc, &grid)?;
-        let judged = Judged::new(alloc, &grid)?;
+        let judged = Judged::new(alloc, &grid, field.costs())?;
         let ledger = first_ledger(alloc, &grid, &judged)?;
         Ok(Engine {
             grid,
@@ -91,10 +95,16 @@ impl Engine {
         self.ledger.spare()
     }
 
+    // The least cost of the field.
+    fn least_cost(&self) -> u64
+        ensures { result ≡ self.now.field.costs.total }
+    {
+        self.field.costs().total()
+    }
+
     // Judges what the field poses, and records which meters went dark or live at the time.
-    fn judge(&mut self, at: Stamp)
+    fn judge<L: Counter>(&mut self, at: Stamp, steps: &mut Steps<L>)
         requires field { IsField self.old.grid self.old.field }
-        requires own { IsOfNetwork self.old.grid self.old.judged }
         requires sized { IsSized (length self.old.grid.nodes) (length self.old.grid.devices) self.old.judged }
         requires each { length self.old.ledger.meters ≡ length self.old.grid.meters }
         requires spare { length self.old.grid.meters ≤ self.old.ledger.spare }
@@ -109,19 +119,19 @@ impl Engine {
         diagnosis_is_one();
         one_least_cost();
         ledger_is_kept();
-        self.judged.recompute(
-            &self.grid,
-            self.field.closed(),
-            self.field.marks(),
-            self.field.dark_weights(),
-            self.field.live_weights(),
-        );
+        fed_rows_are_exact();
+        total_is_least();
+        self.judged.recompute(&self.grid, self.field.costs(), steps);
         record_meters(&self.grid, &self.judged, &mut self.ledger, at);
     }
 
     /// Applies an event, or refuses it by the first rule that it breaks: then everything stands as
-    /// before. Takes no memory, but room for a line a meter.
-    pub fn apply(&mut self, event: Event) -> Result<Applied, Refusal>
+    /// before, and no step is taken. Takes no memory, but room for a line a meter.
+    pub fn apply<L: Counter>(
+        &mut self,
+        event: Event,
+        steps: &mut Steps<L>,
+    ) -> Result<Applied, Refusal>
         requires engine { IsEngine self.old }
         requires of_grid { IsOfGrid self.old.grid event.what }
         requires range { event.time.0 ≤ 253_402_300_799 }
@@ -130,17 +140,18 @@ impl Engine {
         ensures grid { self.new.grid ≡ self.old.grid }
         ensures answer { (h : List Event) → IsEngineAfter h self.old → result ≡ answer_by self.old.grid h event (refusal_of self.old.grid h event) }
         ensures refused { (rule : Refusal) → result ≡ Err rule → self.new ≡ self.old }
+        ensures idle { (rule : Refusal) → result ≡ Err rule → steps.new ≡ steps.old }
         ensures after { (h : List Event) → IsEngineAfter h self.old → IsEngineAfter (joined self.old.grid h event) self.new }
         ensures engine { IsEngine self.new }
         ensures changed { (applied : Applied) → result ≡ Ok applied → map (λ d. d.0) self.new.judged.changed ≡ differences self.old.judged.opened self.new.judged.opened }
         ensures spare { self.old.ledger.spare ≤ self.new.ledger.spare + length self.old.grid.meters }
     {
-        let cost_before = self.judged.cost();
-        self.field.apply(&self.grid, event)?;
-        self.judge(event.time);
+        let cost_before = self.least_cost();
+        self.field.apply(&self.grid, event, steps)?;
+        self.judge(event.time, steps);
         Ok(Applied {
             cost_before,
-            cost_after: self.judged.cost(),
+            cost_after: self.least_cost(),
         })
     }
 
@@ -179,6 +190,6 @@ impl Engine {
         ensures of_network { IfOk result (λ b. IsTableOf self.now.grid b) }
     {
         field_poses();
-        bounds_of(alloc, &self.grid, &self.judged)
+        bounds_of(alloc, &self.grid, self.field.costs(), &self.judged)
     }
 }

@@ -8,7 +8,6 @@ pub mod Ending
 pub mod Settled
 pub mod ByParents
 pub mod Halving
-pub mod SmallNetwork
 pub mod Rooted
 pub mod Climbing
 pub mod Looping

@@ -8,6 +8,3 @@ mod traversal;
 pub use forest::Forest;
 pub use loops::first_loop;
 pub use traversal::Traversal;
-
-#[cfg(test)]
-mod tests;

@@ -4,6 +4,8 @@
 #[cfg(test)]
 mod bound_checker_calls;
 #[cfg(test)]
+mod engines;
+#[cfg(test)]
 mod indices_1366_calls;
 #[cfg(test)]
 mod networks;

@@ -2,6 +2,7 @@
 ghost use Rattle.std.specs.Prelude.{◌≤◌, IfOk};
 ghost use Rattle.outage_engine.specs.Engined.{IsEngine};
 
+use crate::engines::apply_event;
 use crate::networks::one_breaker;
 use grid_model::{Confirmed, DeviceId, Event, Grid, Line, MeterId, Stamp, What};
 use interruption_ledger::Ledger;
@@ -22,7 +23,7 @@ fn confirm(engine: &mut Engine, time: u64, confirmed: Confirmed) -> Result<bool,
         time: Stamp(time),
         what: What::Confirm(DeviceId(0), confirmed),
     };
-    Ok(engine.apply(event).is_ok())
+    Ok(apply_event(engine, event).is_ok())
 }
 
 // The breaker opens, is seen open, and is closed again: an engine after that.
@@ -54,7 +55,7 @@ fn a_call_costs_its_weight(rt: HostRuntime) -> Result<(), AllocError> {
         cost_before: 0,
         cost_after: 11,
     };
-    assert!(rt; engine.apply(call) == Ok(applied));
+    assert!(rt; apply_event(&mut engine, call) == Ok(applied));
     assert!(rt; engine.bounds(alloc)?.cost == 11);
     Ok(())
 }

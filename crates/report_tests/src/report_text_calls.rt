@@ -2,6 +2,7 @@
 ghost use Rattle.std.specs.Prelude.{IfOk};
 ghost use Rattle.outage_engine.specs.Engined.{IsEngine};
 
+use crate::engines::apply_event;
 use crate::networks::network;
 use event_rules::ReadRule;
 use grid_model::{Event, MeterId, Period, Refusal, Stamp, What};
@@ -63,7 +64,7 @@ fn gasped(rt: &impl Abort, alloc: Global) -> Result<Engine, AllocError>
         time: Stamp(1_709_287_200),
         what: What::Gasp(MeterId(0)),
     };
-    assert!(rt; engine.apply(gasp).is_ok());
+    assert!(rt; apply_event(&mut engine, gasp).is_ok());
     Ok(engine)
 }
 
@@ -77,7 +78,7 @@ fn entries(rt: &impl Abort, alloc: Global, engine: &Engine) -> Result<Vec<u8>, A
     assert!(rt; judged.changed().iter().all(|device| device.0 < devices));
     let applied = Applied {
         cost_before: 0,
-        cost_after: judged.cost(),
+        cost_after: engine.field().costs().total(),
     };
     let mut text = Vec::new(alloc);
     put_changes(&mut text, 1, grid, judged, applied)?;

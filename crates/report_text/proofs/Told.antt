@@ -13,8 +13,8 @@ use Rattle.grid_model.specs.declared.history.Stamp.{Stamp}
 use Rattle.event_rules.specs.Rows.{row}
 use Rattle.evidence.specs.declared.Pull.{Pull}
 use Rattle.history_rules.specs.State.{now}
-use Rattle.history_rules.specs.Posed.{problem_after, least_after, diagnosis_after}
-use Rattle.diagnosis.specs.Judgement.{Judgement, IsJudged, opened_by}
+use Rattle.history_rules.specs.Posed.{diagnosis_after}
+use Rattle.diagnosis.specs.Judgement.{Judgement, opened_by}
 use Rattle.history_rules.specs.Laws.{HistoryIsTimely}
 use Rattle.history_rules.specs.Outages.{outages_after}
 use Rattle.history_rules.specs.StampTexts.{last_second}
@@ -33,11 +33,10 @@ use Rattle.report_text.proofs.OfNetwork.{outages_are, lines_are}
 
 -- a list of the outages after the events of a field that is judged
 abbrev pub AreOutages : Parts → Fielded → Judgement → List Outage → Type 0
-AreOutages g f j listed = (h : List Event) → IsFieldAfter g h f → IsJudged (problem_after g h) j → opened_by j ≡ diagnosis_after g h → listed ≡ outages_after g h (diagnosis_after g h)
+AreOutages g f j listed = (h : List Event) → IsFieldAfter g h f → opened_by j ≡ diagnosis_after g h → listed ≡ outages_after g h (diagnosis_after g h)
 
 -- the judgement has a flag for each device
 pub opened_each : (h : List Event) (e : Engined) → IsEngineAfter h e → length e.judged.opened ≡ length e.grid.devices
-unfolding problem_after
 opened_each h e after = after.judged.sized.opened
 
 -- what is added, by another name
@@ -74,7 +73,7 @@ module _ (h : List Event) (e : Engined) (after : IsEngineAfter h e) where
       → listed ≡ outages_after e.grid h (diagnosis_after e.grid h)
   outages_told g f j listed g_is f_is j_is told =
       subst (λ x. AreOutages e.grid e.field x listed) j_is (subst (λ x. AreOutages e.grid x j listed) f_is (subst (λ x. AreOutages x f j listed) g_is told))
-      h after.field after.judged after.opened
+      h after.field after.opened
 
   pub outages_of_grid : (g : Parts) (listed : List Outage) → HistoryIsTimely → g ≡ e.grid → listed ≡ outages_after e.grid h (diagnosis_after e.grid h) → All (IsOutageOf g) listed
   outages_of_grid g listed timely same is =
@@ -113,7 +112,7 @@ module _ (h : List Event) (e : Engined) (after : IsEngineAfter h e) where
   now_by f t f_is time = let is : t.0 ≡ now h = time ∙ ap (λ x. x.now) f_is ∙ after.field.time in let range = after.range.last in omega arith
 
   -- the first rows
-  pub head_told : (f : Fielded) (applied : ℕ) (t : Stamp) (refused total : ℕ) → f ≡ e.field → applied ≡ f.applied → t.0 ≡ f.now → total ≡ e.judged.cost
+  pub head_told : (f : Fielded) (applied : ℕ) (t : Stamp) (refused total : ℕ) → f ≡ e.field → applied ≡ f.applied → t.0 ≡ f.now → total ≡ e.field.costs.total
       → first_rows applied t refused total ≡ first_rows_after e.grid refused h
   unfolding first_rows_after
   head_told f applied t refused total f_is count time cost =

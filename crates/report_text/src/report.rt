@@ -26,7 +26,7 @@ fn add_head(text: &mut Vec<u8>, engine: &Engine, refused: u64) -> Result<(), All
         field.applied(),
         field.now(),
         refused,
-        engine.judged().cost(),
+        field.costs().total(),
     )
 }
 

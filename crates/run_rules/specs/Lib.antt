@@ -2,4 +2,5 @@ pub mod Faults
 pub mod Number
 pub mod Files
 pub mod Told
+pub mod Trial
 pub mod Run

@@ -15,8 +15,9 @@ use Rattle.bound_checker.specs.declared.rules.Place.{Place}
 use Rattle.bound_checker.specs.declared.rules.Verdict.{Verdict}
 use Rattle.bound_checker.specs.declared.rules.Verdict.TheVariants as verdict
 use Rattle.outage_ports.specs.Bytes.{Files, AppendsPrefix}
-use Rattle.command_words.specs.Forms.{Places, Command, Replay, Check}
+use Rattle.command_words.specs.Forms.{Places, Command, Replay, Check, Trial}
 use Rattle.run_rules.specs.Files.{most_network, most_report, IsTooLong, SaysNetwork, RefusesNetworkAt, HasEvents, HasTooManyLines, HasTooManyBytes, IsFrontOf, SaysBounds, RefusesReportAt}
+use Rattle.run_rules.specs.Trial.{MakesRefused, Tries, TriesPart, CompletesTrial, IsSilentTrial}
 use Rattle.run_rules.specs.Told.{output, entries_taken, text_due, verdict_on, verdict_text}
 use Rattle.run_rules.specs.declared.status.Status.{Status}
 use Rattle.run_rules.specs.declared.status.Status.TheVariants.{Done, Invalid, Usage, WriteFault, Memory, Limit, NetworkRefused, ReportRefused}
@@ -42,6 +43,7 @@ abbrev pub IsSilent : Option Command → Status → Type 0
 IsSilent None status = ⊤
 IsSilent (Some (Replay places wish)) status = IsSilentReplay status
 IsSilent (Some (Check places report)) status = IsSilentCheck status
+IsSilent (Some (Trial n)) status = IsSilentTrial status
 
 -- the files of a replay: a network, and events within their limit
 pub record CanReplay (files : Files) (places : Places) : Type 0 where
@@ -77,6 +79,7 @@ pub record Checks (files : Files) (left before now : Option (List ℕ)) (places 
 abbrev pub Did : Files → Option (List ℕ) → Option (List ℕ) → Option (List ℕ) → Command → Type 0
 Did files left before now (Replay places wish) = Replays files left before now places wish
 Did files left before now (Check places report) = Checks files left before now places report verdict.Valid
+Did files left before now (Trial n) = Tries before now n
 
 abbrev pub IsDone : Option Files → Option (List ℕ) → Option (List ℕ) → Option (List ℕ) → Option Command → Type 0
 IsDone None left before now command = ⊤
@@ -87,6 +90,7 @@ IsDone (Some files) left before now (Some command) = Did files left before now c
 abbrev pub Found : Files → Option (List ℕ) → Option (List ℕ) → Option (List ℕ) → Command → CheckRule → Type 0
 Found files left before now (Replay places wish) rule = ⊥
 Found files left before now (Check places report) rule = (place : Place) × Checks files left before now places report (verdict.Invalid rule place)
+Found files left before now (Trial n) rule = ⊥
 
 abbrev pub IsInvalid : Option Files → Option (List ℕ) → Option (List ℕ) → Option (List ℕ) → Option Command → CheckRule → Type 0
 IsInvalid None left before now command rule = ⊤
@@ -113,6 +117,7 @@ pub record ChecksPart (files : Files) (before now : Option (List ℕ)) (places :
 abbrev pub DidPart : Files → Option (List ℕ) → Option (List ℕ) → Command → Type 0
 DidPart files before now (Replay places wish) = ReplaysPart files before now places wish
 DidPart files before now (Check places report) = ChecksPart files before now places report
+DidPart files before now (Trial n) = TriesPart before now n
 
 abbrev pub IsPart : Option Files → Option (List ℕ) → Option (List ℕ) → Option Command → Type 0
 IsPart None before now command = ⊤
@@ -137,37 +142,34 @@ pub record StopsReplay (files : Files) (before now : Option (List ℕ)) (places 
 abbrev pub Leaves : Files → Option (List ℕ) → Option (List ℕ) → Command → Type 0
 Leaves files before now (Replay places wish) = (now ≡ before) ⊎ StopsReplay files before now places
 Leaves files before now (Check places report) = now ≡ before
+Leaves files before now (Trial n) = ⊥
 
 abbrev pub IsLeft : Option Files → Option (List ℕ) → Option (List ℕ) → Option Command → Type 0
 IsLeft None before now command = ⊤
 IsLeft (Some files) before now None = ⊥
 IsLeft (Some files) before now (Some command) = Leaves files before now command
 
--- the files of the network and of the events
-abbrev pub places_in : Command → Places
-places_in (Replay places wish) = places
-places_in (Check places report) = places
-
 -- the network is refused at this line by this rule
+abbrev pub RefusesNetwork : Files → Command → ℕ → GridRule → Type 0
+RefusesNetwork files (Replay places wish) line rule = RefusesNetworkAt files places.net line rule
+RefusesNetwork files (Check places report) line rule = RefusesNetworkAt files places.net line rule
+RefusesNetwork files (Trial n) line rule = MakesRefused n line rule
+
 abbrev pub IsRefused : Option Files → Option Command → ℕ → GridRule → Type 0
 IsRefused None command line rule = ⊤
 IsRefused (Some files) None line rule = ⊥
-IsRefused (Some files) (Some command) line rule = RefusesNetworkAt files (places_in command).net line rule
+IsRefused (Some files) (Some command) line rule = RefusesNetwork files command line rule
 
 -- the files of a replay are fine, and the report is refused at this line by this rule
 abbrev pub RefusesReport : Files → Command → ℕ → BoundRule → Type 0
 RefusesReport files (Replay places wish) line rule = ⊥
 RefusesReport files (Check places report) line rule = (can : CanReplay files places) × RefusesReportAt files report can.parts line rule
+RefusesReport files (Trial n) line rule = ⊥
 
 abbrev pub IsReportRefused : Option Files → Option Command → ℕ → BoundRule → Type 0
 IsReportRefused None command line rule = ⊤
 IsReportRefused (Some files) None line rule = ⊥
 IsReportRefused (Some files) (Some command) line rule = RefusesReport files command line rule
-
--- the report is too long, after the files of a replay were fine
-abbrev pub HasLongReport : Files → Command → Type 0
-HasLongReport files (Replay places wish) = ⊥
-HasLongReport files (Check places report) = CanReplay files places × IsTooLong files report most_report
 
 -- the network is fine, and a limit of its events is met
 pub record MeetsLines (files : Files) (places : Places) : Type 0 where
@@ -182,12 +184,19 @@ pub record MeetsBytes (files : Files) (places : Places) : Type 0 where
   pub network : SaysNetwork files places.net parts
   pub long : HasTooManyBytes files places.events bytes
 
--- which limit is met: the files stand in the order in which they are read
+-- a limit of the network or of the events is met: the files stand in the order in which they are read
+abbrev pub IsOverFiles : Files → Places → Which → Type 0
+IsOverFiles files places NetworkBytes = IsTooLong files places.net most_network
+IsOverFiles files places EventLines = MeetsLines files places
+IsOverFiles files places EventBytes = MeetsBytes files places
+IsOverFiles files places ReportBytes = ⊥
+
+-- which limit is met: a report is read after them
 abbrev pub IsOver : Files → Command → Which → Type 0
-IsOver files command NetworkBytes = IsTooLong files (places_in command).net most_network
-IsOver files command EventLines = MeetsLines files (places_in command)
-IsOver files command EventBytes = MeetsBytes files (places_in command)
-IsOver files command ReportBytes = HasLongReport files command
+IsOver files (Replay places wish) which = IsOverFiles files places which
+IsOver files (Check places report) ReportBytes = CanReplay files places × IsTooLong files report most_report
+IsOver files (Check places report) which = IsOverFiles files places which
+IsOver files (Trial n) which = ⊥
 
 abbrev pub IsLimit : Option Files → Option Command → Which → Type 0
 IsLimit None command which = ⊤
@@ -213,7 +222,7 @@ IsCut (Some files) before now (Some command) which = Cuts files before now comma
 -- where no read failed, a limit that is met and a text that is refused are answered so, unless memory ran out, or a write failed before the limit
 pub record AnswersCauses (files : Files) (command : Command) (status : Status) : Type 0 where
   pub over : (which : Which) → IsOver files command which → (status ≡ Limit which) ⊎ ((status ≡ Memory) ⊎ (status ≡ WriteFault))
-  pub network : (line : ℕ) (rule : GridRule) → RefusesNetworkAt files (places_in command).net line rule → (status ≡ NetworkRefused line rule) ⊎ (status ≡ Memory)
+  pub network : (line : ℕ) (rule : GridRule) → RefusesNetwork files command line rule → (status ≡ NetworkRefused line rule) ⊎ (status ≡ Memory)
   pub report : (line : ℕ) (rule : BoundRule) → RefusesReport files command line rule → (status ≡ ReportRefused line rule) ⊎ (status ≡ Memory)
 
 abbrev pub IsDue : Option Files → Option Command → Status → Type 0
@@ -229,6 +238,7 @@ status_of (verdict.Invalid rule place) = Invalid rule
 abbrev pub Completes : Files → Command → Status → Type 0
 Completes files (Replay places wish) status = CanReplay files places → (status ≡ Done) ⊎ (status ≡ Memory)
 Completes files (Check places report) status = (verdict : Verdict) → CanCheck files places report verdict → (status ≡ status_of verdict) ⊎ (status ≡ Memory)
+Completes files (Trial n) status = CompletesTrial n status
 
 abbrev pub IsComplete : Option Files → Option Command → Status → Type 0
 IsComplete None command status = ⊤

@@ -42,6 +42,16 @@ fn tells_usage(rt: HostRuntime) -> Result<(), WordsFault> {
         ("outage check -- -a - --", false),
         ("outage replay --from=2024-03-01T10:00:00Z a -- b", false),
         ("outage replay a --bounds -", false),
+        ("outage trial", true),
+        ("outage trial 0", true),
+        ("outage trial 101", true),
+        ("outage trial 01", true),
+        ("outage trial x", true),
+        ("outage trial 1 2", true),
+        ("outage trial 1 --bounds", true),
+        ("outage trial 1", false),
+        ("outage trial 100", false),
+        ("outage trial -- 7", false),
     ];
     for (line, usage) in lines {
         assert!(rt; is_usage(rt.alloc(), line)? == usage, "{line}");
@@ -59,7 +69,24 @@ fn reads_a_wish(rt: HostRuntime) -> Result<(), WordsFault> {
             assert!(rt; !wish.with_bounds);
             assert!(rt; wish.period.from == Stamp(5) && wish.period.until == Some(Stamp(60)));
         }
-        Command::Check(_, _) => assert!(rt; false),
+        Command::Check(_, _) | Command::Trial(_) => assert!(rt; false),
+    }
+    Ok(())
+}
+
+#[test]
+fn reads_a_number_of_feeders(rt: HostRuntime) -> Result<(), WordsFault> {
+    let lines = [
+        ("outage trial 1", 1),
+        ("outage trial 100", 100),
+        ("outage trial -- 7", 7),
+    ];
+    for (line, number) in lines {
+        let words = words_of(rt.alloc(), line)?;
+        match read_words(rt.alloc(), words.as_slice())? {
+            Command::Trial(feeders) => assert!(rt; feeders == number, "{line}"),
+            Command::Replay(_, _) | Command::Check(_, _) => assert!(rt; false, "{line}"),
+        }
     }
     Ok(())
 }

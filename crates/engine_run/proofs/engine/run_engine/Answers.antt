@@ -1,12 +1,11 @@
 -- Where the run stops among the events.
-use Rattle.std.proofs.Common.{◌≡◌, refl, sym, subst, Err}
+use Rattle.std.proofs.Common.{refl, sym, subst}
 use Rattle.command_words.specs.Forms.{Replay}
 use Rattle.command_words.specs.Seen.{places_view}
 use Rattle.std.proofs.Common.{Some}
-use Rattle.run_rules.specs.Faults.{TellsFaults}
 use Rattle.run_rules.specs.Run.{IsSilentReplay}
 use Rattle.run_rules.specs.declared.status.Status.{Status}
-use Rattle.run_rules.specs.declared.status.Status.TheVariants.{ReadFault, WriteFault}
+use Rattle.run_rules.specs.declared.status.Status.TheVariants.{ReadFault}
 use Rattle.run_rules.proofs.FaultsTold.{left_count, tells_last}
 use Rattle.engine_run.specs.Ended.{IsEnd, IsRunStop, DidSayNetwork}
 use Rattle.engine_run.proofs.Ends.{stop_ended, stop_kind, never_silent, read_told, write_told, no_error}

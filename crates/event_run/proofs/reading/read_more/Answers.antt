@@ -1,5 +1,5 @@
 -- What one more read leads to.
-use Rattle.std.proofs.Common.{◌≡◌, [], ◌++◌, take, refl, sym, ap, ◌∙◌, subst, arith}
+use Rattle.std.proofs.Common.{◌≡◌, [], ◌++◌, take, ◌∙◌, subst, arith}
 use Rattle.std.proofs.lemmas.Result.{err_from_is_err_and}
 use Rattle.std.proofs.lemmas.List.{length-take, length-append}
 use Rattle.event_rules.specs.Lines.{lines}

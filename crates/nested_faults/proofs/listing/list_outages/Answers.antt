@@ -8,7 +8,7 @@ use Rattle.nested_faults.proofs.listing.list_outages.Goals.{then-is_opened+in_ok
 pub loop-d-preserved : goal.loop-d-preserved
 loop-d-preserved c =
     let j = c.args.judged.now in
-    let item = outage_in c.args.grid.now j c.args.last.now c.args.tallies.now in
+    let item = outage_in c.args.grid.now c.args.costs.now c.args.last.now c.args.tallies.now in
     elim c.if-is_opened.branch [
       | then-is_opened+in_ok-push w ↦
           ap (λ v. v.items) w.outages-is ∙ w.in_ok-push.ensures.items

@@ -12,4 +12,4 @@ position-within : {X : Type 0} (p : X → Bool) (xs : List X) → IfSome (positi
 position-within p xs = cond_both (nat_lt (position_or_len p xs) (length xs)) (Some (position_or_len p xs)) None (λ o. IfSome o (λ k. k < length xs)) (λ e. ltb-true (position_or_len p xs) (length xs) e) (λ e. tt)
 
 pub apply-requires-clause-of_grid : goal.apply-requires-clause-of_grid
-apply-requires-clause-of_grid c = subst (λ (g : Parts). c.in-Some.meter.0 < length g.meters) (sym c.reserve.ensures.grid) (subst (λ (g : Parts). c.in-Some.meter.0 < length g.meters) c.grid.ensures (subst (λ o. IfSome o (λ k. k < length c.grid.result.now.meters)) (sym c.in-Some.ensures) (position-within (λ m. name_eq c.args.name m.name) c.grid.result.now.meters)))
+apply-requires-clause-of_grid g c = subst (λ (p : Parts). c.in-Some.meter.0 < length p.meters) (sym c.reserve.ensures.grid) (subst (λ (p : Parts). c.in-Some.meter.0 < length p.meters) c.grid.ensures (subst (λ o. IfSome o (λ k. k < length c.grid.result.now.meters)) (sym c.in-Some.ensures) (position-within (λ m. name_eq c.args.name m.name) c.grid.result.now.meters)))

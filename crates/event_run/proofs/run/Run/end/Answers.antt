@@ -1,5 +1,5 @@
 -- The end of the text.
-use Rattle.std.proofs.Common.{[], sym, subst, arith, length}
+use Rattle.std.proofs.Common.{[], sym, subst, arith}
 use Rattle.std.proofs.lemmas.Result.{on_ok_weaker}
 use Rattle.line_text.specs.Cutting.{ended_from, part_from, last_line}
 use Rattle.event_run.specs.Pieces.{HasTaken, HasMet}

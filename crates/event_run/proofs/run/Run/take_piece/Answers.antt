@@ -1,5 +1,5 @@
 -- The lines that end in one more piece.
-use Rattle.std.proofs.Common.{◌≡◌, [], ◌++◌, sym, subst, arith}
+use Rattle.std.proofs.Common.{[], sym, subst, arith}
 use Rattle.std.proofs.lemmas.Result.{on_ok_weaker}
 use Rattle.line_text.specs.Cutting.{IsAtPart, ended_from, part_from}
 use Rattle.event_run.specs.Pieces.{HasTaken, HasMet}

@@ -2,7 +2,7 @@
 use Rattle.std.proofs.Common.{◌≡◌, true, false, length, Ok, Err, Some, None, rules, refl, sym, ap, ◌∙◌, subst, arith, append-nil, []}
 use Rattle.std.proofs.lemmas.Bool.{false_from_ne_true}
 use Rattle.event_rules.specs.Lines.{is_skipped}
-use Rattle.event_rules.specs.EventLines.{IsEvent, IsRefused, event_reading}
+use Rattle.event_rules.specs.EventLines.{IsEvent, IsRefused}
 use Rattle.outage_engine.specs.Engined.{IsEngineAfter}
 use Rattle.history_rules.specs.Posed.{refusal_of}
 use Rattle.history_rules.specs.Run.{Skips, Refuses, Unread, outcome_by, history_in}

@@ -5,7 +5,7 @@ use Rattle.field_state.specs.Weighed.{dues}
 use Rattle.field_state.proofs.state.State.advance.Given as goal
 
 abbrev pub invariant-loop-t : goal.invariant-loop-t
-invariant-loop-t l = record {
+invariant-loop-t g l = record {
   some : (h : List Event) × IsFieldKept l.grid h l.t.0 l.self;
   kept : (h : List Event) → IsFieldKept l.grid h l.fn.self.now l.fn.self → IsFieldKept l.grid h l.t.0 l.self;
   now : l.self.now ≡ l.fn.self.now;
@@ -14,4 +14,4 @@ invariant-loop-t l = record {
 }
 
 abbrev pub decreases-loop-t : goal.decreases-loop-t
-decreases-loop-t l = dues l.t.0 l.self.due
+decreases-loop-t g l = dues l.t.0 l.self.due

@@ -10,16 +10,16 @@ use Rattle.field_state.proofs.Reporting.{taken_by, call_here, call_there}
 use Rattle.field_state.proofs.state.State.call.Goals as goal
 
 pub returns : goal.returns
-returns c =
-    let g = c.args.grid.now in
+returns g c =
+    let grid = c.args.grid.now in
     let m = c.args.m in
     let t = c.args.now in
     let f = fielded_of c.self.inside in
     let e : Event = record { time = t; what = what.Call m } in
-    let ready = subst (IsReady g t.0) (sym c.self.view_is) c.requires.ready in
-    subst (λ old. IsDone g e old c.take_pull.new.self) c.self.view_is
-    (done_by_report g e f c.take_pull.new.self ready (λ d. refl) (λ k. refl)
-    (taken_by g m.0 t.0 (slots_after m.0 e false (kept_of f.evidence m.0).slots) f c.take_pull.new.self c.call-after.new.self
+    let ready = subst (IsReady grid t.0) (sym c.self.view_is) c.requires.ready in
+    subst (λ old. IsDone grid e old c.take_pull.new.self) c.self.view_is
+    (done_by_report grid e f c.take_pull.new.self ready (λ d. refl) (λ k. refl)
+    (taken_by grid m.0 t.0 (slots_after m.0 e false (kept_of f.evidence m.0).slots) f c.take_pull.new.self c.call-after.new.self
     c.call-after.result (λ k. kept_after k e false (kept_of f.evidence k)) ready
-    c.requires.meter c.call-after.ensures.kept c.call-after.ensures.pull c.take_pull.ensures.weighed c.take_pull.ensures.due c.take_pull.ensures.rest
+    c.requires.meter c.call-after.ensures.kept c.call-after.ensures.pull c.take_pull.ensures.weighed c.take_pull.ensures.due c.take_pull.ensures.rest c.take_pull.ensures.costed
     (call_here m t (kept_of f.evidence m.0)) (λ k ne. call_there m t k (kept_of f.evidence k) ne)))

@@ -7,39 +7,39 @@ use Rattle.field_state.proofs.Tallied.{tallied_after, was_weighed, due_here}
 use Rattle.field_state.proofs.state.State.lapse.Goals as goal
 
 pub take_pull-requires-clause-was : goal.take_pull-requires-clause-was
-take_pull-requires-clause-was c =
-    let g = c.args.grid.now in
+take_pull-requires-clause-was g c =
+    let grid = c.args.grid.now in
     let f = fielded_of c.self.inside in
-    let tallied = subst (IsTalliedBut g c.args.t.0 c.args.m.0) (sym c.self.view_is) c.requires.tallied in
-    was_weighed g c.args.m.0 c.args.t.0 (kept_of f.evidence c.args.m.0).slots c.pull-before.result f (fielded_of (record c.self.inside { evidence = c.lapse-after.new.self })) tallied.weighed (c.pull-before.ensures g tallied.evidence) c.lapse-after.ensures.kept refl refl
+    let tallied = subst (IsTalliedBut grid c.args.t.0 c.args.m.0) (sym c.self.view_is) c.requires.tallied in
+    was_weighed grid c.args.m.0 c.args.t.0 (kept_of f.evidence c.args.m.0).slots c.pull-before.result f (fielded_of (record c.self.inside { evidence = c.lapse-after.new.self })) tallied.weighed (c.pull-before.ensures grid tallied.evidence) c.lapse-after.ensures.kept refl refl
 
 pub returns-clause-tallied : goal.returns-clause-tallied
-returns-clause-tallied c =
-    let g = c.args.grid.now in
+returns-clause-tallied g c =
+    let grid = c.args.grid.now in
     let m = c.args.m.0 in
     let f = fielded_of c.self.inside in
     let s = (kept_of f.evidence m).slots in
-    let tallied = subst (IsTalliedBut g c.args.t.0 m) (sym c.self.view_is) c.requires.tallied in
-    let due = c.take_pull.ensures.due ∙ ap (set f.due m) (due_here g m c.args.t.0 s f.evidence c.lapse-after.new.self c.lapse-after.result (omega (arith, tallied.evidence.each)) c.lapse-after.ensures.kept c.lapse-after.ensures.pull) in
-    tallied_after g m c.args.t.0 s f c.take_pull.new.self tallied c.requires.meter (c.take_pull.ensures.rest.evidence ∙ c.lapse-after.ensures.kept) c.take_pull.ensures.weighed due
+    let tallied = subst (IsTalliedBut grid c.args.t.0 m) (sym c.self.view_is) c.requires.tallied in
+    let due = c.take_pull.ensures.due ∙ ap (set f.due m) (due_here grid m c.args.t.0 s f.evidence c.lapse-after.new.self c.lapse-after.result (omega (arith, tallied.evidence.each)) c.lapse-after.ensures.kept c.lapse-after.ensures.pull) in
+    tallied_after grid m c.args.t.0 s f c.take_pull.new.self tallied c.requires.meter (c.take_pull.ensures.rest.evidence ∙ c.lapse-after.ensures.kept) c.take_pull.ensures.weighed due
 
 pub returns-clause-kept : goal.returns-clause-kept
-returns-clause-kept c =
+returns-clause-kept g c =
     c.take_pull.ensures.rest.evidence ∙ c.lapse-after.ensures.kept ∙ ap (λ f. keeping f.evidence c.args.m.0 (kept_of f.evidence c.args.m.0).slots c.args.t.0) c.self.view_is
 
 pub returns-clause-due : goal.returns-clause-due
-returns-clause-due c =
-    let g = c.args.grid.now in
+returns-clause-due g c =
+    let grid = c.args.grid.now in
     let m = c.args.m.0 in
     let f = fielded_of c.self.inside in
     let s = (kept_of f.evidence m).slots in
-    let tallied = subst (IsTalliedBut g c.args.t.0 m) (sym c.self.view_is) c.requires.tallied in
+    let tallied = subst (IsTalliedBut grid c.args.t.0 m) (sym c.self.view_is) c.requires.tallied in
     c.take_pull.ensures.due
-    ∙ ap (set f.due m) (due_here g m c.args.t.0 s f.evidence c.lapse-after.new.self c.lapse-after.result (omega (arith, tallied.evidence.each)) c.lapse-after.ensures.kept c.lapse-after.ensures.pull)
-    ∙ ap (λ f. set f.due m (due_in g m c.args.t.0 (kept_of f.evidence m).slots)) c.self.view_is
+    ∙ ap (set f.due m) (due_here grid m c.args.t.0 s f.evidence c.lapse-after.new.self c.lapse-after.result (omega (arith, tallied.evidence.each)) c.lapse-after.ensures.kept c.lapse-after.ensures.pull)
+    ∙ ap (λ f. set f.due m (due_in grid m c.args.t.0 (kept_of f.evidence m).slots)) c.self.view_is
 
 pub returns-clause-rest : goal.returns-clause-rest
-returns-clause-rest c = (
+returns-clause-rest g c = (
   c.take_pull.ensures.rest.now ∙ ap (λ f. f.now) c.self.view_is,
   c.take_pull.ensures.rest.applied ∙ ap (λ f. f.applied) c.self.view_is,
   c.take_pull.ensures.rest.forest ∙ ap (λ f. f.forest) c.self.view_is,

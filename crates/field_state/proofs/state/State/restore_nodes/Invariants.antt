@@ -7,7 +7,7 @@ use Rattle.field_state.specs.Acted.{IsKeptBy, restored_if, is_listed}
 use Rattle.field_state.proofs.state.State.restore_nodes.Given as goal
 
 abbrev pub invariant-loop-n : goal.invariant-loop-n
-invariant-loop-n l =
+invariant-loop-n g l =
     IsKeptBy l.grid l.now.0
     (λ k. restored_if (is_listed l.nodes l.n-index (node_of l.grid k)
     && is_fed (network_in l.grid (λ e. slice_index_or l.initial.self.forest.closed e false)) (node_of l.grid k)) l.now.0 (kept_of l.initial.self.evidence k))

@@ -9,6 +9,6 @@ use Rattle.field_state.proofs.state.State.rule_against.Goals as goal
 pub returns-in-Order : goal.returns-in-Order
 returns-in-Order c =
     let g = c.args.grid.now in
-    c.err.ensures.value ∙ ap result_err c.decide.ensures.decided ∙ order_rule g c.self.inside.forest.closed c.in-Order.d.0 c.in-Order.want
-    ∙ ap (λ f. if closes_loop_by g f.forest.closed c.in-Order.d.0 c.in-Order.want then Some Loop else None) c.self.view_is
+    c.err.ensures.value ∙ ap result_err c.decide.ensures.decided ∙ order_rule g c.forest-in-Order.result.now.closed c.in-Order.d.0 c.in-Order.want
+    ∙ ap (λ f. if closes_loop_by g f.closed c.in-Order.d.0 c.in-Order.want then Some Loop else None) (c.forest-in-Order.ensures ∙ ap (λ f. f.forest) c.self.view_is)
     ∙ ap (rule_in g c.args.self.now.forest.closed) (sym c.in-Order.is)

@@ -1,33 +1,61 @@
-use Rattle.std.proofs.Common.{refl, sym, ap, ◌∙◌, subst}
-use Rattle.history_rules.specs.Posed.{refusal_of, joined}
+use Rattle.std.proofs.Common.{◌≡◌, refl, sym, ap, ◌∙◌, subst}
+use Rattle.std.specs.Prelude.{Result, Ok}
+use Rattle.grid_model.specs.declared.history.Refusal.{Refusal}
+use Rattle.outage_engine.specs.declared.Applied.{Applied}
+use Rattle.history_rules.specs.Posed.{refusal_of, joined, least_after}
 use Rattle.field_state.specs.Fielded.{Fielded, IsFieldAfter}
-use Rattle.outage_engine.specs.Engined.{Engined, IsEngine, IsEngineAfter}
-use Rattle.outage_engine.proofs.AfterEvents.{is_sized, joins}
+use Rattle.outage_engine.specs.Engined.{Engined, IsEngine, IsEngineAfter, answer_by}
+use Rattle.outage_engine.proofs.AfterEvents.{joins, stays, costs_told}
 use Rattle.outage_engine.proofs.engine.Engine.apply.Goals as goal
 
 pub returns-in_err-apply-clause-engine : goal.returns-in_err-apply-clause-engine
-returns-in_err-apply-clause-engine c =
+returns-in_err-apply-clause-engine g c =
     subst IsEngine (sym (ap with_field (c.apply.ensures.refused c.in_err-apply.field-0.0 c.in_err-apply.was) ∙ c.self.view_is)) c.requires.engine
   where
     with_field : Fielded → Engined
     with_field f = record { grid = c.self.inside.grid; field = f; judged = c.self.inside.judged; ledger = c.self.inside.ledger }
 
 pub judge-requires-clause-sized : goal.judge-requires-clause-sized
-judge-requires-clause-sized c =
+judge-requires-clause-sized g c =
     let old = subst (IsEngineAfter c.requires.engine.0) (sym c.self.view_is) c.requires.engine.1 in
-    is_sized c.self.inside.grid c.requires.engine.0 c.self.inside.judged old.judged
+    old.judged.sized
 
 pub returns-clause-after : goal.returns-clause-after
-returns-clause-after c h given =
-    let g = c.self.inside.grid in
+returns-clause-after g c h given =
+    let grid = c.self.inside.grid in
     let e = c.args.event in
     let old = subst (IsEngineAfter h) (sym c.self.view_is) given in
-    let all = joins h e (refusal_of g h e) c.apply.result c.in_ok-apply.field-0 c.in_ok-apply.was (c.apply.ensures.answer h old.field) in
-    let field = subst (λ events. IsFieldAfter g events c.apply.new.self) all (c.apply.ensures.after h old.field) in
+    let all = joins h e (refusal_of grid h e) c.apply.result c.in_ok-apply.field-0 c.in_ok-apply.was (c.apply.ensures.answer h old.field) in
+    let field = subst (λ events. IsFieldAfter grid events c.apply.new.self) all (c.apply.ensures.after h old.field) in
     subst (λ x. IsEngineAfter (joined x.grid h e) c.judge.new.self) c.self.view_is
     (subst (λ events. IsEngineAfter events c.judge.new.self) (sym all) (c.judge.ensures.after h e refl field (record { each = old.ledger_each; kept = old.ledger })))
 
 pub returns-clause-engine : goal.returns-clause-engine
-returns-clause-engine c =
+returns-clause-engine g c =
     let h = c.requires.engine.0 in
-    (joined c.args.self.now.grid h c.args.event, returns-clause-after c h c.requires.engine.1)
+    (joined c.args.self.now.grid h c.args.event, returns-clause-after g c h c.requires.engine.1)
+
+pub returns-in_err-apply-clause-after : goal.returns-in_err-apply-clause-after
+returns-in_err-apply-clause-after g c h given =
+    let grid = c.self.inside.grid in
+    let e = c.args.event in
+    let old = subst (IsEngineAfter h) (sym c.self.view_is) given in
+    let same = ap with_field (c.apply.ensures.refused c.in_err-apply.field-0.0 c.in_err-apply.was) ∙ c.self.view_is in
+    let none = stays h e (refusal_of grid h e) c.apply.result c.in_err-apply.field-0.0 c.in_err-apply.was (c.apply.ensures.answer h old.field) in
+    subst (λ events. IsEngineAfter events (with_field c.apply.new.self)) (sym (subst (λ x. joined x.grid h e ≡ h) c.self.view_is none))
+    (subst (IsEngineAfter h) (sym same) given)
+  where
+    with_field : Fielded → Engined
+    with_field f = record { grid = c.self.inside.grid; field = f; judged = c.self.inside.judged; ledger = c.self.inside.ledger }
+
+pub returns-clause-answer : goal.returns-clause-answer
+returns-clause-answer g c h given =
+    let grid = c.self.inside.grid in
+    let e = c.args.event in
+    let old = subst (IsEngineAfter h) (sym c.self.view_is) given in
+    let after = returns-clause-after g c h given in
+    let now = c.least_cost.ensures ∙ after.cost ∙ ap (λ x. least_after x (joined c.args.self.now.grid h e)) (c.judge.ensures.grid ∙ refl) in
+    subst (λ x. ◌≡◌ {A = Result Applied Refusal} (Ok (record { cost_before = c.least_cost-cost_before.result; cost_after = c.least_cost.result })) (answer_by x.grid h e (refusal_of x.grid h e))) c.self.view_is
+    (costs_told grid h e (refusal_of grid h e) c.apply.result c.in_ok-apply.field-0 _ _ c.in_ok-apply.was (c.apply.ensures.answer h old.field)
+    (c.least_cost-cost_before.ensures ∙ ap (λ x. x.field.costs.total) (sym c.self.view_is) ∙ old.cost)
+    (now ∙ ap (λ x. least_after grid (joined x.grid h e)) (sym c.self.view_is)))

@@ -1,6 +1,7 @@
 use Rattle.std.proofs.Common.{[], subst, arith}
-use Rattle.outage_engine.proofs.AfterEvents.{Judges, is_after, engine_is}
-use Rattle.outage_engine.proofs.NoEvents.{poses_nothing}
+use Rattle.subtree_costs.specs.Costed.{problem_in}
+use Rattle.diagnosis.specs.Judgement.{IsJudged, TellsDiagnosis}
+use Rattle.outage_engine.proofs.AfterEvents.{is_after, engine_is}
 use Rattle.outage_engine.proofs.Recorded.{first_ledger_is}
 use Rattle.outage_engine.proofs.engine.Engine.new.Goals as goal
 
@@ -10,14 +11,7 @@ returns-clause-after c =
     let f = c.in_ok-field.field in
     let j = c.in_ok-judged.judged in
     let l = c.in_ok-ledger.ledger in
-    let facts = c.in_ok-judged.ensures in
     let judged = is_after g [] f j c.in_ok-field.ensures c.field_poses.ensures c.history_is_diagnosed.ensures c.diagnosis_is_one.ensures c.one_least_cost.ensures
-    (subst (λ p. Judges g p j) (poses_nothing g) (record {
-      own = facts.own;
-      judged = facts.judged;
-      diagnosis = facts.diagnosis;
-      within = facts.within;
-      cost = facts.cost;
-      dark = facts.dark;
-    })) in
+    c.fed_rows_are_exact.ensures c.total_is_least.ensures (subst (λ k. IsJudged g k j) c.costs.ensures c.in_ok-judged.ensures.judged)
+    (subst (λ k. TellsDiagnosis (problem_in g k) j) c.costs.ensures c.in_ok-judged.ensures.diagnosis) in
     engine_is g [] f j l judged (record { last = omega arith }) (first_ledger_is g j l judged.field.sound judged.dark judged.opened c.in_ok-ledger.ensures)

@@ -1,0 +1,9 @@
+use Rattle.std.proofs.Common.{◌≤◌, ◌+◌}
+use Rattle.diagnosis.proofs.Flagged.{AreFlagged}
+use Rattle.diagnosis.proofs.flags.flag_all.Given as goal
+
+abbrev pub invariant-loop-n : goal.invariant-loop-n
+invariant-loop-n g l = record {
+  flagged : AreFlagged l.grid l.costs l.n-index l.opened l.dark;
+  steps : l.steps ≤ l.fn.steps + l.n-index;
+}

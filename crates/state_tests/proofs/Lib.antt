@@ -1,0 +1,2 @@
+mod SmallGrid
+mod Judging

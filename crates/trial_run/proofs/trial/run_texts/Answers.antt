@@ -1,0 +1,13 @@
+-- The run over the events stops for want of memory alone.
+use Rattle.std.proofs.Common.{ℕ, List, None, Some, sym, subst}
+use Rattle.event_run.specs.Reading.{Stops}
+use Rattle.trial_run.specs.Made.{IsMadeStop}
+use Rattle.trial_run.proofs.MadeRuns.{text_files, made_stop}
+use Rattle.trial_run.proofs.trial.run_texts.Goals as goal
+
+pub returns-in-Err-clause-stopped : goal.returns-in-Err-clause-stopped
+returns-in-Err-clause-stopped c =
+    subst (IsMadeStop c.args.network.now) (sym c.status_by.ensures)
+    (made_stop c.args.network.now c.args.events.now c.requires.events c.requires.few _ None None c.in-Ok-new.engine.grid c.run_events.result c.in-Err.stop c.in-Err.is
+    c.run_events.ensures.shelf c.run_events.ensures.out
+    (subst (λ (xs : List ℕ). Stops (Some (text_files xs)) _ None None c.in-Ok-new.engine.grid c.in-Err.stop) c.new-shelf.ensures c.in-Err.ensures.stopped))
