@@ -1,5 +1,5 @@
 -- What holds where a check ends.
-use Rattle.std.proofs.Common.{◌≡◌, ℕ, List, [], Option, None, Some, inl, refl, sym, subst, length}
+use Rattle.std.proofs.Common.{◌≡◌, ℕ, List, [], Option, None, Some, inl, refl, sym, subst, ap, ◌∙◌, length}
 use Rattle.std.specs.Io.KnownBytes.{Appends}
 use Rattle.grid_model.specs.declared.history.Event.{Event}
 use Rattle.history_rules.specs.Posed.{problem_after}
@@ -14,7 +14,7 @@ use Rattle.outage_ports.specs.Bytes.{Files, AppendsPrefix}
 use Rattle.command_words.specs.Forms.{Places, Replay, Check}
 use Rattle.run_rules.specs.Files.{SaysBounds}
 use Rattle.run_rules.specs.Told.{last_problem, verdict_on, verdict_text}
-use Rattle.std.specs.Prelude.{false}
+use Rattle.std.specs.Prelude.{false, Result, Err, IsErrOf}
 use Rattle.run_rules.specs.Run.{CanReplay, CanCheck, IsSilentCheck, status_of}
 use Rattle.engine_run.specs.Ended.{IsEnd, Runs, DidRun, IsRunStop}
 use Rattle.check_run.specs.Reported.{DidSayBounds, IsReportStop}
@@ -22,6 +22,13 @@ use Rattle.run_rules.specs.declared.status.Status.{Status}
 use Rattle.run_rules.specs.declared.status.Status.TheVariants.{Done, Invalid, Usage, ReadFault, WriteFault, NetworkRefused, ReportRefused, Limit, Memory}
 use Rattle.command_words.specs.declared.words.Wish.{Wish}
 use Rattle.run_rules.specs.declared.status.Which.TheVariants.{NetworkBytes, EventLines, EventBytes, ReportBytes}
+
+-- what is answered is the one error that it is
+pub error_is : {X E : Type 0} (r : Result X E) (s e : E) → r ≡ Err s → IsErrOf r e → s ≡ e
+error_is r s e is err = cc
+
+pub error_of : {X E : Type 0} (r : Result X E) (s e : E) → r ≡ Err s → s ≡ e → IsErrOf r e
+error_of r s e is same = is ∙ ap Err same
 
 -- nothing that a check asks for
 pub no_wish : Wish

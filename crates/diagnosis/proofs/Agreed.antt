@@ -1,26 +1,24 @@
 -- Flags that agree with the rows of all trees agree with those of the fed nodes, and tell the diagnosis.
-use Rattle.std.proofs.Common.{◌≡◌, ℕ, suc, zero, ◌+◌, ◌<◌, ◌≤◌, Bool, true, false, cond, refl, sym, ap, ◌∙◌, subst, inl, inr, ⊎_elim, arith, below_more, List, length, Option, Some, None, is_some, get_or}
-use Rattle.std.specs.Prelude.{◌||◌, ◌&&◌, ◌==◌, not, ◌⊎◌, nat_lt}
+use Rattle.std.proofs.Common.{◌≡◌, ℕ, suc, zero, ◌+◌, ◌<◌, ◌≤◌, Bool, true, false, cond, refl, sym, ap, ◌∙◌, subst, inl, inr, ⊎_elim, arith, below_more, length, Option, Some, None, is_some, get_or}
+use Rattle.std.specs.Prelude.{◌||◌, ◌==◌, not, ◌⊎◌}
 use Rattle.std.proofs.lemmas.Bool.{cases_Bool, and_parts, false≢true}
 use Rattle.std.proofs.lemmas.List.{get_or_past}
-use Rattle.outage_rules.specs.Network.{Problem, Cut, IsSound, nothing, is_live}
+use Rattle.outage_rules.specs.Network.{Cut, IsSound, nothing, is_live}
 use Rattle.outage_rules.specs.Certificate.{has_parent, other_end, AgreeWithRows}
 use Rattle.outage_rules.proofs.Flags.{flags_are_diagnosis, live_is_flag}
 use Rattle.grid_model.specs.declared.parts.DeviceId.{DeviceId}
-use Rattle.grid_model.specs.declared.parts.NodeId.{NodeId}
 use Rattle.grid_model.specs.declared.history.Mark.{Mark}
 use Rattle.grid_model.specs.declared.history.Mark.TheVariants.{Nothing, Opened, Fine}
 use Rattle.grid_model.specs.Parts.{Parts}
 use Rattle.grid_model.specs.Places.{is_source, device_at}
-use Rattle.grid_model.specs.Network.{network_of}
 use Rattle.grid_model.specs.Problem.{says_opened, says_fine, mark_at}
 use Rattle.radial_forest.specs.Traversed.{parent_in, number_of_device, node_at}
-use Rattle.radial_forest.specs.Forested.{root_in, HasRoots}
+use Rattle.radial_forest.specs.Forested.{HasRoots}
 use Rattle.subtree_costs.specs.Shares.{row_at}
 use Rattle.subtree_costs.specs.Trees.{hanger}
 use Rattle.subtree_costs.specs.Costed.{Costed, IsCosted, problem_in}
 use Rattle.subtree_costs.specs.Laws.{fed_rows, AreFedRows, FedRowsAreExact}
-use Rattle.diagnosis.specs.Judgement.{Judgement, IsJudged, Agree, TellsDark, TellsDiagnosis, JudgedTellsDiagnosis, opens, flag_in, opened_by, is_dark_by}
+use Rattle.diagnosis.specs.Judgement.{Agree, JudgedTellsDiagnosis, opens, opened_by, is_dark_by}
 use Rattle.diagnosis.proofs.Passing.{sound_network_in}
 
 either_parent : (o : Option DeviceId) → (o ≡ None) ⊎ ((d : DeviceId) × (o ≡ Some d))
@@ -157,11 +155,3 @@ judged_tells exact g c j costed judged =
     twice : (b : Bool) → not (not b) ≡ b
     twice true = refl
     twice false = refl
-
--- equal lists are judged alike, whatever is listed as changed
-pub judged_alike : (g : Parts) (c : Costed) (o o' d d' : List Bool) (flipped : List NodeId) (changed : List DeviceId) → o' ≡ o → d' ≡ d
-    → length o ≡ length g.devices → length d ≡ length g.nodes → Agree g c (flag_in o) (flag_in d) → IsJudged g c (record { opened = o'; dark = d'; flipped = flipped; changed = changed })
-judged_alike g c o o' d d' flipped changed same_opened same_dark opened_each dark_each agree = record {
-  sized = record { opened = ap length same_opened ∙ opened_each; dark = ap length same_dark ∙ dark_each };
-  agree = subst (λ xs. Agree g c (flag_in xs) (flag_in d')) (sym same_opened) (subst (λ xs. Agree g c (flag_in o) (flag_in xs)) (sym same_dark) agree);
-}

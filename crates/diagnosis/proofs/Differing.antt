@@ -1,18 +1,15 @@
 -- Numbers that are listed one after another where a test passes.
-use Rattle.std.proofs.Common.{◌≡◌, ℕ, ◌+◌, ◌<◌, Bool, true, false, cond, refl, sym, ap, ◌∙◌, arith, List, [], ◌∷◌, ◌++◌, length, set, map, take}
-use Rattle.std.specs.Prelude.{not}
-use mathlib.Core.Bool.{beq}
+use Rattle.std.proofs.Common.{◌≡◌, ℕ, ◌+◌, Bool, true, false, cond, refl, sym, ap, ◌∙◌, arith, List, [], ◌∷◌, ◌++◌, map}
 use Rattle.std.specs.List.{filter, range_with_len}
-use Rattle.std.proofs.lemmas.List.{take_more_set, map-append, append-nil}
+use Rattle.std.proofs.lemmas.List.{map-append, append-nil}
 use Rattle.std.proofs.lemmas.List.FromFn.{filter_of_map_range_with_len_more}
-use Rattle.diagnosis.specs.Judgement.{differ}
 
 map_same : (xs : List ℕ) → map (λ x. x) xs ≡ xs
 map_same [] = refl
 map_same (x ∷ xs) = ap (λ ys. x ∷ ys) (map_same xs)
 
 -- one more number is tested
-filter_next : (test : ℕ → Bool) (n : ℕ) → filter test (range_with_len 0 (n + 1)) ≡ filter test (range_with_len 0 n) ++ cond (test n) (n ∷ []) []
+pub filter_next : (test : ℕ → Bool) (n : ℕ) → filter test (range_with_len 0 (n + 1)) ≡ filter test (range_with_len 0 n) ++ cond (test n) (n ∷ []) []
 filter_next test n =
     ap (filter test) (sym (map_same (range_with_len 0 (n + 1))))
     ∙ filter_of_map_range_with_len_more test (λ x. x) 0 n n (omega arith)
@@ -27,21 +24,9 @@ listed_push number test xs n x is passes before =
     ∙ ap (λ k. filter test (range_with_len 0 n) ++ k ∷ []) is
     ∙ sym (filter_next test n ∙ ap (λ b. filter test (range_with_len 0 n) ++ cond b (n ∷ []) []) passes)
 
-pub listed_next : {X : Type 0} (number : X → ℕ) (test : ℕ → Bool) (xs : List X) (count n : ℕ) (x : X) → count < length xs → number x ≡ n → test n ≡ true
-    → map number (take count xs) ≡ filter test (range_with_len 0 n) → map number (take (count + 1) (set xs count x)) ≡ filter test (range_with_len 0 (n + 1))
-listed_next number test xs count n x l is passes before =
-    ap (map number) (take_more_set xs count x l) ∙ listed_push number test (take count xs) n x is passes before
-
 -- or it doesn't
 pub passed_over : (test : ℕ → Bool) (xs : List ℕ) (n : ℕ) → test n ≡ false → xs ≡ filter test (range_with_len 0 n) → xs ≡ filter test (range_with_len 0 (n + 1))
 passed_over test xs n fails before =
     before
     ∙ sym (append-nil (filter test (range_with_len 0 n)))
     ∙ sym (filter_next test n ∙ ap (λ b. filter test (range_with_len 0 n) ++ cond b (n ∷ []) []) fails)
-
--- the test of two flags
-pub differ_is : (a b : Bool) → differ a b ≡ not (beq a b)
-differ_is true true = refl
-differ_is true false = refl
-differ_is false true = refl
-differ_is false false = refl

@@ -1,5 +1,5 @@
 -- Flags of nodes and devices, from the first node of an order to the last.
-use Rattle.std.proofs.Common.{◌≡◌, ◌≢◌, ℕ, suc, ◌+◌, ◌<◌, ◌≤◌, Bool, false, cond, refl, sym, ap, ◌∙◌, subst, inl, inr, ⊎_elim, arith, below_more, List, length, set, Option, Some, None}
+use Rattle.std.proofs.Common.{◌≡◌, ◌≢◌, ℕ, ◌+◌, ◌<◌, ◌≤◌, Bool, false, cond, refl, sym, ap, ◌∙◌, subst, inl, inr, ⊎_elim, arith, below_more, List, length, set, Option, Some, None}
 use Rattle.std.specs.Prelude.{◌||◌, ◌⊎◌, not}
 use Rattle.std.proofs.lemmas.Bool.{eq-eqb, ne_eqb, false≢true}
 use Rattle.std.proofs.lemmas.List.{get_or-set_same, get_or-set_other, length-set}
@@ -15,6 +15,7 @@ use Rattle.radial_forest.specs.Forested.{IsParentOf}
 use Rattle.subtree_costs.specs.Shares.{row_at}
 use Rattle.subtree_costs.specs.Costed.{Costed, IsCosted, problem_in}
 use Rattle.diagnosis.specs.Judgement.{Agree, AgreeAt, flag_in, opens}
+use Rattle.diagnosis.specs.Judging.{IsNext}
 
 -- the nodes below place k of the order and their parent devices are flagged, and no other device is opened
 pub record AreFlagged (g : Parts) (c : Costed) (k : ℕ) (opened dark : List Bool) : Type 0 where
@@ -23,20 +24,13 @@ pub record AreFlagged (g : Parts) (c : Costed) (k : ℕ) (opened dark : List Boo
   pub at : (j : ℕ) → j < k → AgreeAt g c (flag_in opened) (flag_in dark) (node_at c.order j)
   pub open_ones : (d : ℕ) → d < length g.devices → flag_in c.forest.closed d ≡ false → flag_in opened d ≡ false
 
--- one more node is flagged
-pub record IsNext (g : Parts) (c : Costed) (n : ℕ) (o d o' d' : List Bool) : Type 0 where
-  pub top : parent_in c.forest.parents n ≡ None → (o' ≡ o) × (d' ≡ set d n (not (is_source g n)))
-  pub opened : (x : DeviceId) → parent_in c.forest.parents n ≡ Some x
-      → o' ≡ set o x.0 (opens (mark_at c.marks x.0) (flag_in d (other_end (network_of g) x.0 n)) ((device_at g x.0).weight + (row_at c.rows n).dark) (row_at c.rows n).live)
-  pub dark : (x : DeviceId) → parent_in c.forest.parents n ≡ Some x → d' ≡ set d n (flag_in d (other_end (network_of g) x.0 n) || flag_in o' x.0)
-
-none_some : (o : Option DeviceId) (d : DeviceId) → o ≡ None → o ≡ Some d → ⊥
+pub none_some : (o : Option DeviceId) (d : DeviceId) → o ≡ None → o ≡ Some d → ⊥
 none_some o d a b = cc
 
-same_some : (a b : DeviceId) → Some a ≡ Some b → a ≡ b
+pub same_some : (a b : DeviceId) → Some a ≡ Some b → a ≡ b
 same_some a b e = cc
 
-either_parent : (o : Option DeviceId) → (o ≡ None) ⊎ ((d : DeviceId) × (o ≡ Some d))
+pub either_parent : (o : Option DeviceId) → (o ≡ None) ⊎ ((d : DeviceId) × (o ≡ Some d))
 either_parent None = inl refl
 either_parent (Some d) = inr (d, refl)
 
@@ -48,7 +42,7 @@ ends_cross net d m n ne (inr a) (inl b) = ap (λ x. cond x (net.from d) (net.to 
 ends_cross net d m n ne (inr a) (inr b) = absurd (ne (sym a ∙ b))
 
 -- flags stay right where none that they speak of changed
-agree_still : (g : Parts) (c : Costed) (cut cut' : Cut) (dark dark' : ℕ → Bool) (m : ℕ) → AgreeAt g c cut dark m → dark' m ≡ dark m
+pub agree_still : (g : Parts) (c : Costed) (cut cut' : Cut) (dark dark' : ℕ → Bool) (m : ℕ) → AgreeAt g c cut dark m → dark' m ≡ dark m
     → ((d : DeviceId) → parent_in c.forest.parents m ≡ Some d → (cut' d.0 ≡ cut d.0) × (dark' (other_end (network_of g) d.0 m) ≡ dark (other_end (network_of g) d.0 m)))
     → AgreeAt g c cut' dark' m
 agree_still g c cut cut' dark dark' m before same above = record {

@@ -6,3 +6,14 @@ pub mod Summing
 pub mod Agreed
 pub mod Flagged
 pub mod Differing
+pub mod Places
+pub mod Watching
+pub mod Turning
+pub mod Climbing
+pub mod Walking
+pub mod Below
+pub mod Working
+pub mod Reached
+pub mod Changed
+pub mod Rising
+pub mod Sorting

@@ -8,13 +8,12 @@ use Rattle.outage_rules.specs.Network.{Network, IsSoundNetwork, nothing}
 use Rattle.outage_rules.specs.Certificate.{has_parent, IsForest, HasExactRows}
 use Rattle.outage_rules.proofs.Lists.{total_list}
 use Rattle.outage_rules.proofs.Rooted.{up_within}
-use Rattle.grid_model.specs.declared.parts.NodeId.{NodeId}
 use Rattle.grid_model.specs.declared.parts.DeviceId.{DeviceId}
 use Rattle.grid_model.specs.declared.history.Mark.{Mark}
 use Rattle.grid_model.specs.Parts.{Parts}
 use Rattle.grid_model.specs.Sound.{IsSoundParts}
 use Rattle.grid_model.specs.Network.{network_in}
-use Rattle.grid_model.specs.Problem.{mark_at, posed}
+use Rattle.grid_model.specs.Problem.{posed}
 use Rattle.grid_model.proofs.SoundParts.{sound_network}
 use Rattle.radial_forest.specs.Traversed.{Traversed, parent_in, number_of_device, node_at, table_of, IsTraversed}
 use Rattle.diagnosis.specs.declared.above.Above.{Above}

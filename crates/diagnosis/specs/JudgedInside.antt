@@ -1,24 +1,20 @@
--- What a contract sees of a judgement that is kept in flat vectors.
-use Rattle.std.specs.Prelude.{◌≡◌, ◌<◌, ◌≤◌, ◌^◌, length, take}
+-- What a contract sees of a judgement, of which the flags alone tell anything.
+use Rattle.std.specs.Prelude.{◌≡◌, ◌<◌, ◌+◌, ◌^◌, length}
 use Rattle.diagnosis.specs.declared.judged.Judged.TheInside.{Inside}
 use Rattle.diagnosis.specs.Judgement.{Judgement}
 
--- the lists, and the flips and changes that are counted
 abbrev pub judgement_of : Inside → Judgement
 judgement_of j = record {
-  opened = j.opened.items;
-  dark = j.dark.items;
-  flipped = take j.flipped_count j.flipped.items;
-  changed = take j.changed_count j.changed.items;
+  opened = j.flags.opened.flags;
+  dark = j.flags.dark.flags;
+  opened_begun = j.flags.opened.begun;
+  dark_begun = j.flags.dark.begun;
+  flipped = j.flags.dark.named;
+  changed = j.flags.opened.named;
 }
 
--- all vectors have one entry a node, or one a device
+-- there is room for a walk of all nodes, and for a list of all nodes with one place more; and devices have numbers of 32 bits
 pub record IsWholeInside (j : Inside) : Type 0 where
-  pub opened_before : length j.opened_before.items ≡ length j.opened.items
-  pub dark_before : length j.dark_before.items ≡ length j.dark.items
-  pub flipped : length j.flipped.items ≡ length j.dark.items
-  pub changed : length j.changed.items ≡ length j.opened.items
-  pub flipped_count : j.flipped_count ≤ length j.flipped.items
-  pub changed_count : j.changed_count ≤ length j.changed.items
-  pub few_nodes : length j.dark.items < 2 ^ 32
-  pub few_devices : length j.opened.items < 2 ^ 32
+  pub walk : length j.walk.items ≡ length j.flags.dark.flags
+  pub turned : length j.turned.items ≡ length j.flags.dark.flags + 1
+  pub few : length j.flags.opened.flags < 2 ^ 32

@@ -16,10 +16,12 @@ use Rattle.radial_forest.specs.Traversed.{parent_in}
 use Rattle.subtree_costs.specs.Shares.{row_at}
 use Rattle.subtree_costs.specs.Costed.{Costed, IsCosted, problem_in}
 
--- by number: which devices are opened and which nodes dark; and what differs from before
+-- by number: which devices are opened and which nodes dark; which were so at the last beginning; and what differs since
 pub record Judgement : Type 0 where
   pub opened : List Bool
   pub dark : List Bool
+  pub opened_begun : List Bool
+  pub dark_begun : List Bool
   pub flipped : List NodeId
   pub changed : List DeviceId
 
@@ -44,6 +46,15 @@ is_dark_by j = flag_in j.dark
 abbrev pub opens : Mark → Bool → ℕ → ℕ → Bool
 opens mark dark_above open_cost closed_cost =
     says_opened mark || (not dark_above && (not (says_fine mark) && nat_lt open_cost closed_cost))
+
+-- the flags agree with the rows at a closed device, whose lower end is given: it is opened where its mark or the costs say so, and its lower end is dark where its upper end is dark or it is opened
+pub record AgreeAtDevice (g : Parts) (c : Costed) (cut : Cut) (dark : ℕ → Bool) (d low : ℕ) : Type 0 where
+  pub opened : cut d ≡ opens (mark_at c.marks d) (dark (other_end (network_of g) d low)) ((device_at g d).weight + (row_at c.rows low).dark) (row_at c.rows low).live
+  pub below : dark low ≡ (dark (other_end (network_of g) d low) || cut d)
+
+-- and at a root: it is dark where it is no source
+abbrev pub AgreeAtRoot : Parts → (ℕ → Bool) → ℕ → Type 0
+AgreeAtRoot g dark n = dark n ≡ not (is_source g n)
 
 -- the flags of a node and of the device that it hangs from agree with the rows: a root is dark where it is no source,
 -- and another node where the node above is dark or the device is opened

@@ -1,3 +1,9 @@
 pub mod Judgement
+pub mod Watched
+pub mod Places
+pub mod NodesInside
+pub mod DevicesInside
 pub mod Passes
 pub mod JudgedInside
+pub mod Settling
+pub mod Judging

@@ -1,18 +1,26 @@
 //! The flags of nodes and devices, from the roots of the trees down.
-ghost use Rattle.std.specs.Prelude.{◌≡◌, ◌≤◌, ◌<◌, ◌+◌, ◌^◌, ◌||◌, Some, None, length, not, slice_set};
+ghost use Rattle.std.specs.Prelude.{◌≡◌, ◌≤◌, ◌<◌, ◌+◌, ◌^◌, ℕ, false, length};
 ghost use Rattle.outage_rules.specs.Certificate.{other_end};
-ghost use Rattle.grid_model.specs.declared.parts.DeviceId.{DeviceId};
-ghost use Rattle.grid_model.specs.Places.{is_source, device_at};
+ghost use Rattle.grid_model.specs.Places.{device_at};
 ghost use Rattle.grid_model.specs.Network.{network_of};
 ghost use Rattle.grid_model.specs.Problem.{mark_at};
-ghost use Rattle.radial_forest.specs.Traversed.{parent_in};
 ghost use Rattle.subtree_costs.specs.Shares.{row_at};
 ghost use Rattle.subtree_costs.specs.Costed.{IsCosted};
 ghost use Rattle.diagnosis.specs.Judgement.{Agree, flag_in, opens};
+ghost use Rattle.diagnosis.specs.Judging.{IsNext};
 
+use crate::device_flags::DeviceFlags;
+use crate::node_flags::NodeFlags;
 use grid_model::{DeviceId, Grid, Mark, NodeId};
 use std::sync::ledger::Ledger;
 use subtree_costs::{CostForest, Steps};
+
+/// Which devices are taken for opened, and which nodes are dark.
+#[derive(Drop)]
+pub(crate) struct Flags {
+    pub(crate) opened: DeviceFlags,
+    pub(crate) dark: NodeFlags,
+}
 
 // Whether a device is taken for opened, by its mark and by what it costs to open it and to keep it closed.
 fn is_opening(mark: Mark, dark_above: bool, open_cost: u64, closed_cost: u64) -> bool
@@ -26,7 +34,7 @@ fn is_opening(mark: Mark, dark_above: bool, open_cost: u64, closed_cost: u64) ->
 }
 
 // The end of a device that isn't this node.
-fn other_end(grid: &Grid, d: DeviceId, n: NodeId) -> NodeId
+pub(crate) fn other_end(grid: &Grid, d: DeviceId, n: NodeId) -> NodeId
     requires { d.0 < length grid.now.devices }
     ensures { result.0 ≡ other_end (network_of grid.now) d.0 n.0 }
 {
@@ -55,34 +63,42 @@ fn opens_above<L: Ledger>(
 }
 
 // Flags a node, where the node above it is flagged, and the device that it hangs from.
-fn flag_node<L: Ledger>(
+pub(crate) fn flag_node<L: Ledger>(
     grid: &Grid,
     costs: &CostForest,
     n: NodeId,
-    opened: &mut [bool],
-    dark: &mut [bool],
+    flags: &mut Flags,
     steps: &mut Steps<L>,
 )
     requires costed { IsCosted grid.now costs.now }
     requires node { n.0 < length grid.now.nodes }
-    requires opened { length opened.old ≡ length grid.now.devices }
-    requires dark { length dark.old ≡ length grid.now.nodes }
-    ensures top { parent_in costs.now.forest.parents n.0 ≡ None → (opened.new ≡ opened.old) × (dark.new ≡ slice_set dark.old n.0 (not (is_source grid.now n.0))) }
-    ensures opened { (d : DeviceId) → parent_in costs.now.forest.parents n.0 ≡ Some d
-        → opened.new ≡ slice_set opened.old d.0 (opens (mark_at costs.now.marks d.0) (flag_in dark.old (other_end (network_of grid.now) d.0 n.0))
-        ((device_at grid.now d.0).weight + (row_at costs.now.rows n.0).dark) (row_at costs.now.rows n.0).live) }
-    ensures dark { (d : DeviceId) → parent_in costs.now.forest.parents n.0 ≡ Some d
-        → dark.new ≡ slice_set dark.old n.0 (flag_in dark.old (other_end (network_of grid.now) d.0 n.0) || flag_in opened.new d.0) }
+    requires opened { length flags.old.opened.flags ≡ length grid.now.devices }
+    requires dark { length flags.old.dark.flags ≡ length grid.now.nodes }
+    ensures next { IsNext grid.now costs.now n.0 flags.old.opened.flags flags.old.dark.flags flags.new.opened.flags flags.new.dark.flags }
+    ensures opened_begun { flags.new.opened.begun ≡ flags.old.opened.begun }
+    ensures dark_begun { flags.new.dark.begun ≡ flags.old.dark.begun }
     ensures steps { steps.new ≤ steps.old + 1 }
 {
     match costs.forest().parent(n) {
         Some(d) => {
-            let dark_above = dark[other_end(grid, d, n).0 as usize];
+            let dark_above = flags.dark.is_set(other_end(grid, d, n));
             let opens = opens_above(grid, costs, n, d, dark_above, steps);
-            opened[d.0 as usize] = opens;
-            dark[n.0 as usize] = dark_above || opens;
+            flags.opened.set(d, opens);
+            flags.dark.set(n, dark_above || opens);
         }
-        None => dark[n.0 as usize] = !grid.is_source(n),
+        None => flags.dark.set(n, !grid.is_source(n)),
+    }
+}
+
+// Takes all devices for closed.
+fn close_all(grid: &Grid, opened: &mut DeviceFlags)
+    requires { length opened.old.flags ≡ length grid.now.devices }
+    ensures each { length opened.new.flags ≡ length grid.now.devices }
+    ensures none { (d : ℕ) → flag_in opened.new.flags d ≡ false }
+    ensures begun { opened.new.begun ≡ opened.old.begun }
+{
+    for d in 0..grid.devices() {
+        opened.set(DeviceId(d), false);
     }
 }
 
@@ -90,20 +106,21 @@ fn flag_node<L: Ledger>(
 pub(crate) fn flag_all<L: Ledger>(
     grid: &Grid,
     costs: &CostForest,
-    opened: &mut [bool],
-    dark: &mut [bool],
+    flags: &mut Flags,
     steps: &mut Steps<L>,
 )
     requires costed { IsCosted grid.now costs.now }
-    requires opened { length opened.old ≡ length grid.now.devices }
-    requires dark { length dark.old ≡ length grid.now.nodes }
-    ensures agree { Agree grid.now costs.now (flag_in opened.new) (flag_in dark.new) }
-    ensures opened { length opened.new ≡ length grid.now.devices }
-    ensures dark { length dark.new ≡ length grid.now.nodes }
+    requires opened { length flags.old.opened.flags ≡ length grid.now.devices }
+    requires dark { length flags.old.dark.flags ≡ length grid.now.nodes }
+    ensures agree { Agree grid.now costs.now (flag_in flags.new.opened.flags) (flag_in flags.new.dark.flags) }
+    ensures opened { length flags.new.opened.flags ≡ length grid.now.devices }
+    ensures dark { length flags.new.dark.flags ≡ length grid.now.nodes }
+    ensures opened_begun { flags.new.opened.begun ≡ flags.old.opened.begun }
+    ensures dark_begun { flags.new.dark.begun ≡ flags.old.dark.begun }
     ensures steps { steps.new ≤ steps.old + length grid.now.nodes }
 {
-    opened.fill(false);
+    close_all(grid, &mut flags.opened);
     for n in costs.order() {
-        flag_node(grid, costs, *n, opened, dark, steps);
+        flag_node(grid, costs, *n, flags, steps);
     }
 }

@@ -1,26 +1,23 @@
 //! The judgement of a network: which devices are taken for opened, and which nodes are dark.
 ghost use Rattle.std.specs.Prelude.{◌≡◌};
 
-use crate::flags::flag_all;
+use crate::device_flags::DeviceFlags;
+use crate::flags::{Flags, flag_all};
 use crate::laws::judged_tells_diagnosis;
-use crate::lists::{list_changed, list_flipped};
+use crate::node_flags::NodeFlags;
+use crate::settling::settle;
 use grid_model::{DeviceId, Grid, NodeId};
 use std::alloc::{AllocError, Global};
 use std::marker::{Brand, Model};
 use std::sync::ledger::{Blank, Ledger};
 use subtree_costs::{CostForest, Steps};
 
-/// The diagnosis of the last recompute, by number: opened devices and dark nodes.
+/// The diagnosis by number, opened devices and dark nodes, and what changed of it since a beginning.
 #[derive(Drop)]
 pub struct Judged {
-    opened: Vec<bool>,
-    opened_before: Vec<bool>,
-    dark: Vec<bool>,
-    dark_before: Vec<bool>,
-    flipped: Vec<NodeId>,
-    flipped_count: usize,
-    changed: Vec<DeviceId>,
-    changed_count: usize,
+    flags: Flags,
+    walk: Vec<NodeId>,
+    turned: Vec<NodeId>,
 }
 
 impl Model for Judged {
@@ -36,9 +33,14 @@ impl Model for Judged {
 }
 
 impl Judged {
-    ghost use Rattle.std.specs.Prelude.{◌≡◌, ◌≤◌, ◌<◌, ◌+◌, [], length, map, IfOk};
+    ghost use Rattle.std.specs.Prelude.{◌≡◌, ◌≤◌, ◌<◌, ◌+◌, [], length, map, All, IfOk};
+    ghost use Rattle.radial_forest.specs.Traversed.{node_at};
+    ghost use Rattle.radial_forest.specs.Spreading.{switched};
     ghost use Rattle.subtree_costs.specs.Costed.{IsCosted, problem_in};
     ghost use Rattle.diagnosis.specs.Judgement.{IsSized, IsJudged, TellsDiagnosis, opened_by, is_dark_by, differences, flagged};
+    ghost use Rattle.diagnosis.specs.Watched.{device_in, AreDifferences};
+    ghost use Rattle.subtree_costs.specs.Walks.{walks_work};
+    ghost use Rattle.diagnosis.specs.Settling.{DisagreeOnWalks, NoneOpenOpened, flips_work};
 
     /// The diagnosis of the states, marks and weights that the costs stand for; nothing has flipped
     /// or changed. An error says that memory ran out.
@@ -46,20 +48,20 @@ impl Judged {
         requires costed { IsCosted grid.now costs.now }
         ensures judged { IfOk result (IsJudged grid.now costs.now) }
         ensures diagnosis { IfOk result (TellsDiagnosis (problem_in grid.now costs.now)) }
+        ensures opened_begun { IfOk result (λ judged. judged.opened_begun ≡ judged.opened) }
+        ensures dark_begun { IfOk result (λ judged. judged.dark_begun ≡ judged.dark) }
         ensures flipped { IfOk result (λ judged. judged.flipped ≡ []) }
         ensures changed { IfOk result (λ judged. judged.changed ≡ []) }
     {
         let nodes = grid.nodes() as usize;
         let devices = grid.devices() as usize;
         let mut judged = Judged {
-            opened: vec![in alloc; false; devices]?,
-            opened_before: vec![in alloc; false; devices]?,
-            dark: vec![in alloc; false; nodes]?,
-            dark_before: vec![in alloc; false; nodes]?,
-            flipped: vec![in alloc; NodeId(0); nodes]?,
-            flipped_count: 0,
-            changed: vec![in alloc; DeviceId(0); devices]?,
-            changed_count: 0,
+            flags: Flags {
+                opened: DeviceFlags::new(alloc, devices)?,
+                dark: NodeFlags::new(alloc, nodes)?,
+            },
+            walk: vec![in alloc; NodeId(0); nodes]?,
+            turned: vec![in alloc; NodeId(0); nodes + 1]?,
         };
         judged.judge::<Brand>(grid, costs, Blank::new(1));
         Ok(judged)
@@ -74,13 +76,70 @@ impl Judged {
         requires sized { IsSized (length grid.now.nodes) (length grid.now.devices) self.old }
         ensures judged { IsJudged grid.now costs.now self.new }
         ensures diagnosis { TellsDiagnosis (problem_in grid.now costs.now) self.new }
+        ensures opened_begun { self.new.opened_begun ≡ self.new.opened }
+        ensures dark_begun { self.new.dark_begun ≡ self.new.dark }
         ensures flipped { self.new.flipped ≡ [] }
         ensures changed { self.new.changed ≡ [] }
     {
+        judged_tells_diagnosis();
         let mut steps = Steps::<L>::new(blank);
         self.recompute(grid, costs, &mut steps);
-        self.flipped_count = 0;
-        self.changed_count = 0;
+        self.begin();
+    }
+
+    /// Begins anew: nothing has flipped or changed. Costs what is forgotten, and takes no memory.
+    pub fn begin(&mut self)
+        ensures opened { self.new.opened ≡ self.old.opened }
+        ensures dark { self.new.dark ≡ self.old.dark }
+        ensures opened_begun { self.new.opened_begun ≡ self.old.opened }
+        ensures dark_begun { self.new.dark_begun ≡ self.old.dark }
+        ensures flipped { self.new.flipped ≡ [] }
+        ensures changed { self.new.changed ≡ [] }
+    {
+        self.flags.opened.begin();
+        self.flags.dark.begin();
+    }
+
+    /// Judges the network by the rows along the walks from the places to their roots, where alone the
+    /// flags may disagree with the rows, and below each node that flips. Takes at most a step for each
+    /// device on those walks, one for each place, and one for each device at a node that flips. Takes
+    /// no memory.
+    pub fn settle<L: Ledger>(
+        &mut self,
+        grid: &Grid,
+        costs: &CostForest,
+        places: &[NodeId],
+        steps: &mut Steps<L>,
+    )
+        requires costed { IsCosted grid.now costs.now }
+        requires sized { IsSized (length grid.now.nodes) (length grid.now.devices) self.old }
+        requires places { All (λ n. n.0 < length grid.now.nodes) places.now }
+        requires disagree { DisagreeOnWalks grid.now costs.now (opened_by self.old) (is_dark_by self.old) places.now }
+        requires open_ones { NoneOpenOpened grid.now costs.now (opened_by self.old) }
+
+        ensures judged { IsJudged grid.now costs.now self.new }
+        ensures diagnosis { TellsDiagnosis (problem_in grid.now costs.now) self.new }
+
+        // What differs from the last beginning, each once; the devices in number order.
+        ensures opened_begun { self.new.opened_begun ≡ self.old.opened_begun }
+        ensures dark_begun { self.new.dark_begun ≡ self.old.dark_begun }
+        ensures flipped { AreDifferences self.new.dark_begun self.new.dark (length self.new.flipped) (node_at self.new.flipped) }
+        ensures changed { map (λ d. d.0) self.new.changed ≡ differences self.new.opened_begun self.new.opened }
+
+        ensures steps { steps.new ≤ steps.old + walks_work (switched grid.now costs.now.forest.closed) costs.now.forest places.now + flips_work grid.now self.old.dark self.new.dark }
+    {
+        judged_tells_diagnosis();
+        settle(
+            grid,
+            costs,
+            places,
+            &mut self.flags,
+            &mut self.walk,
+            &mut self.turned,
+            steps,
+        );
+        self.flags.dark.names_differences();
+        self.flags.opened.put_in_order();
     }
 
     /// Judges the network anew by the rows: one walk over all nodes, from the roots of its trees, in
@@ -92,18 +151,18 @@ impl Judged {
         ensures judged { IsJudged grid.now costs.now self.new }
         ensures diagnosis { TellsDiagnosis (problem_in grid.now costs.now) self.new }
 
-        // What differs from before.
-        ensures flipped { map (λ n. n.0) self.new.flipped ≡ differences self.old.dark self.new.dark }
-        ensures changed { map (λ d. d.0) self.new.changed ≡ differences self.old.opened self.new.opened }
+        // What differs from the last beginning, each once; the devices in number order.
+        ensures opened_begun { self.new.opened_begun ≡ self.old.opened_begun }
+        ensures dark_begun { self.new.dark_begun ≡ self.old.dark_begun }
+        ensures flipped { AreDifferences self.new.dark_begun self.new.dark (length self.new.flipped) (node_at self.new.flipped) }
+        ensures changed { map (λ d. d.0) self.new.changed ≡ differences self.new.opened_begun self.new.opened }
 
         ensures steps { steps.new ≤ steps.old + length grid.now.nodes }
     {
         judged_tells_diagnosis();
-        self.opened_before.copy_from_slice(&self.opened);
-        self.dark_before.copy_from_slice(&self.dark);
-        flag_all(grid, costs, &mut self.opened, &mut self.dark, steps);
-        self.flipped_count = list_flipped(&self.dark_before, &self.dark, &mut self.flipped);
-        self.changed_count = list_changed(&self.opened_before, &self.opened, &mut self.changed);
+        flag_all(grid, costs, &mut self.flags, steps);
+        self.flags.dark.names_differences();
+        self.flags.opened.put_in_order();
     }
 
     /// Whether a device is taken for opened.
@@ -111,7 +170,7 @@ impl Judged {
         requires { d.0 < length self.now.opened }
         ensures { result ≡ opened_by self.now d.0 }
     {
-        self.opened[d.0 as usize]
+        self.flags.opened.is_set(d)
     }
 
     /// Whether a node is dark.
@@ -119,21 +178,25 @@ impl Judged {
         requires { n.0 < length self.now.dark }
         ensures { result ≡ is_dark_by self.now n.0 }
     {
-        self.dark[n.0 as usize]
+        self.flags.dark.is_set(n)
     }
 
-    /// The nodes that became dark or live in the last recompute, in number order.
+    /// The nodes that are dark now and weren't at the last beginning, or the other way round, each once
+    /// and in no order.
     pub fn flipped(&self) -> &[NodeId]
-        ensures { result.now ≡ self.now.flipped }
+        ensures flipped { result.now ≡ self.now.flipped }
+        ensures differences { AreDifferences self.now.dark_begun self.now.dark (length self.now.flipped) (node_at self.now.flipped) }
     {
-        &self.flipped[..self.flipped_count]
+        self.flags.dark.named()
     }
 
-    /// The devices that became opened or closed in the last recompute, in number order.
+    /// The devices that are taken for opened now and weren't at the last beginning, or the other way
+    /// round, each once and in number order.
     pub fn changed(&self) -> &[DeviceId]
-        ensures { result.now ≡ self.now.changed }
+        ensures changed { result.now ≡ self.now.changed }
+        ensures differences { AreDifferences self.now.opened_begun self.now.opened (length self.now.changed) (device_in self.now.changed) }
     {
-        &self.changed[..self.changed_count]
+        self.flags.opened.named()
     }
 
     /// The opened devices, in number order. An error says that memory ran out.
@@ -141,7 +204,7 @@ impl Judged {
         ensures { IfOk result (λ list. map (λ d. d.0) list.items ≡ flagged self.now.opened) }
     {
         let mut list = Vec::new(alloc);
-        for (d, is_opened) in self.opened.iter().enumerate() {
+        for (d, is_opened) in self.flags.opened.all().iter().enumerate() {
             if *is_opened {
                 list.push(DeviceId(d as u32))?;
             }

@@ -2,13 +2,15 @@
 #![tactic(auto)]
 
 mod above;
+mod device_flags;
 mod flags;
 mod judged;
 mod laws;
-mod lists;
+mod node_flags;
+mod settling;
 mod sums;
 mod walks;
 
 pub use judged::Judged;
-pub use laws::judged_tells_diagnosis;
+pub use laws::{changes_can_be_settled, judged_tells_diagnosis};
 pub use sums::least;

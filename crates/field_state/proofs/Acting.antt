@@ -83,7 +83,7 @@ module _ (g : Parts) (h : List Event) (e : Event) (old new : Fielded) (done : Is
   device_is_later = later_if (is_named e.what d) refl
 
 -- whether an event brings a meter back, by the states of the devices
-same_brought : (g : Parts) (h : List Event) (closed : List Bool) (m : ℕ) (w : What) → ((d : ℕ) → slice_index_or closed d false ≡ is_closed g h d) →
+pub same_brought : (g : Parts) (h : List Event) (closed : List Bool) (m : ℕ) (w : What) → ((d : ℕ) → slice_index_or closed d false ≡ is_closed g h d) →
     is_brought g closed m w ≡ brings_back g m w h
 same_brought g h closed m (Restore x) same = ap (λ states. is_below (network_in g states) x.0 (node_of g m)) (fun_ext same)
 same_brought g h closed m (Call x) same = refl

@@ -16,10 +16,12 @@ use Rattle.history_rules.specs.State.{is_wanted_closed, closed_by}
 use Rattle.history_rules.specs.Slots.{Slots, end_after, due_in}
 use Rattle.evidence.specs.Kept.{Kept, kept_of, keeping}
 use Rattle.field_state.specs.Fielded.{Fielded}
+use Rattle.field_state.specs.Placed.{NotesChanges}
 use Rattle.field_state.specs.Weighed.{IsWeighed, IsTallied}
 use Rattle.field_state.proofs.Tallied.{kept_here, kept_there, tallied_after, tallied_but}
 use Rattle.field_state.specs.Acted.{kept_after, is_brought, IsReady, IsKeptBy, IsDone, restored_if}
 use Rattle.field_state.proofs.Naming.{is_named, mark_stays, end_stays}
+use Rattle.field_state.proofs.Noting.{notes_none, notes_then}
 
 -- what a report of a meter leaves, once it is taken
 module _ (g : Parts) (m t : ℕ) (slots : Slots) (old new : Fielded) (kept : ℕ → Kept) (ready : IsReady g t old) (lm : m < length g.meters)
@@ -39,8 +41,9 @@ module _ (g : Parts) (m t : ℕ) (slots : Slots) (old new : Fielded) (kept : ℕ
       counted : m < length old.evidence.meters
       counted = omega (arith, ready.tallied.evidence.each)
 
-  pub kept_by : new.now ≡ old.now → new.applied ≡ old.applied → new.forest ≡ old.forest → new.marks ≡ old.marks → IsKeptBy g t kept old new
-  kept_by now applied forest marks = record {
+  pub kept_by : new.now ≡ old.now → new.applied ≡ old.applied → new.forest ≡ old.forest → new.marks ≡ old.marks
+      → NotesChanges g old.costs new.costs old.places new.places → IsKeptBy g t kept old new
+  kept_by now applied forest marks notes = record {
     now = now;
     applied = applied;
     costed = costed;
@@ -51,6 +54,7 @@ module _ (g : Parts) (m t : ℕ) (slots : Slots) (old new : Fielded) (kept : ℕ
     due_devices = λ d.
         ap (λ xs. slice_index_or xs (length g.meters + d) None) due
         ∙ get_or-set_other old.due m (length g.meters + d) (due_in g m t slots) None (λ q. absurd (let e : length g.meters + d ≡ m = q in omega arith));
+    notes = notes;
   }
 
 -- one step after another
@@ -65,6 +69,7 @@ kept_then g t first second both a b c x y same = record {
   tallied = y.tallied;
   each = λ m lm. y.each m lm ∙ same m lm;
   due_devices = λ d. y.due_devices d ∙ x.due_devices d;
+  notes = notes_then g a.costs b.costs c.costs a.places b.places c.places x.notes y.notes;
 }
 
 pub kept_still : (g : Parts) (t : ℕ) (f : Fielded) → IsCosted g f.costs → IsTallied g t f → IsKeptBy g t (kept_of f.evidence) f f
@@ -77,6 +82,7 @@ kept_still g t f costed tallied = record {
   tallied = tallied;
   each = λ m lm. refl;
   due_devices = λ d. refl;
+  notes = notes_none g f.costs f.places;
 }
 
 -- the field stays ready for what comes at the same time
@@ -123,6 +129,7 @@ done_by_report g e old new ready unnamed unbrought by = record {
   marks = λ d ld. ap (λ ms. problem.mark_at ms d) by.marks ∙ sym (mark_stays e.what (nat_lt e.time.0 (e.time.0 + setting_of g OkHold)) d (problem.mark_at old.marks d) (unnamed d));
   due_devices = λ d ld. by.due_devices d ∙ sym (end_stays e.what (end_after e.time.0 (e.time.0 + setting_of g OkHold)) d (slice_index_or old.due (length g.meters + d) None) (unnamed d));
   kept = λ m lm. by.each m lm ∙ sym (ap (λ b. kept_after m e b (kept_of old.evidence m)) (unbrought m));
+  notes = λ n. by.notes;
 }
 
 -- time alone does nothing where nothing is due

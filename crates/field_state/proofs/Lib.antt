@@ -1,13 +1,16 @@
 pub mod Acting
 pub mod Between
+pub mod Costing
 pub mod Counting
 pub mod Doing
 pub mod Dues
 pub mod Expired
 pub mod Later
+pub mod Listing
 pub mod Lower
 pub mod Marking
 pub mod Naming
+pub mod Noting
 pub mod Passing
 pub mod Posing
 pub mod Reporting
@@ -15,6 +18,7 @@ pub mod Resting
 pub mod Restoring
 pub mod Reweighed
 pub mod Ruling
+pub mod Spending
 pub mod Standing
 pub mod Starting
 pub mod Taken
@@ -22,3 +26,4 @@ pub mod Tallied
 pub mod Telling
 pub mod Totals
 pub mod Turning
+pub mod Working

@@ -1,7 +1,7 @@
 -- What is done to a device is done as the event says.
 use Rattle.std.proofs.Common.{◌≡◌, ◌≢◌, ℕ, ◌+◌, ◌<◌, ◌≤◌, Bool, true, false, refl, ap, ◌∙◌, sym, subst, arith, length, ⊎_elim, get_or-set_same, get_or-set_other, length-set}
 use Rattle.std.specs.Prelude.{◌==◌, nat_lt, slice_index_or, Option, None, if◌then◌else◌}
-use Rattle.std.proofs.lemmas.Bool.{cases_eq, eq-eqb, ne_eqb}
+use Rattle.std.proofs.lemmas.Bool.{cases_eq, eq-eqb, ne_eqb, false≢true}
 use Rattle.grid_model.specs.Parts.{Parts}
 use Rattle.grid_model.specs.Places.{setting_of}
 use Rattle.grid_model.specs.Problem as problem
@@ -23,6 +23,7 @@ use Rattle.field_state.specs.Weighed.{IsWeighed, IsTallied}
 use Rattle.field_state.specs.Acted.{kept_after, is_brought, IsReady, IsKeptBy, IsMarkedBy, IsTurned, IsDone, restored_if}
 use Rattle.subtree_costs.specs.Costed.{IsCosted}
 use Rattle.field_state.proofs.Naming.{is_named, mark_stays, end_stays}
+use Rattle.field_state.proofs.Noting.{notes_none, notes_then}
 use Rattle.field_state.proofs.Restoring.{kept_same}
 use Rattle.field_state.proofs.Tallied.{tallied_marked}
 
@@ -87,6 +88,7 @@ module _ (g : Parts) (e : Event) (x : ℕ) (mark : Mark) (end : Option ℕ) (old
     marks = marks_done;
     due_devices = due_done;
     kept = λ m lm. ap (λ e. kept_of e m) by.evidence ∙ kept.each m lm;
+    notes = λ n. notes_then g old.costs mid.costs new.costs old.places mid.places new.places kept.notes by.notes;
   }
 
 -- no report is told by what names a device, and brings nothing back
@@ -102,6 +104,7 @@ untold_by_device g t old e costed tallied untold = record {
   tallied = tallied;
   each = λ m lm. untold m (kept_of old.evidence m);
   due_devices = λ d. refl;
+  notes = notes_none g old.costs old.places;
 }
 
 named_alone : (x d : ℕ) → d ≢ x → (x == d) ≡ false
@@ -163,6 +166,7 @@ ordered_done g t x w old mid new ready lx by turned = record {
       ∙ due_done g (record { time = t; what = Order x w }) x.0 Nothing None old old mid lx ready.tallied ready.marks_each refl (λ k. refl) by
       (λ k ne. named_alone x.0 k ne) nothing_is none_is d ld;
   kept = λ m lm. ap (λ e. kept_of e m) (turned.evidence ∙ by.evidence);
+  notes = λ n. absurd (false≢true (sym n));
 }
   where
     tallied : IsTallied g t.0 mid

@@ -14,6 +14,7 @@ use Rattle.evidence.specs.declared.slot.Sign.{Sign}
 use Rattle.evidence.specs.declared.slot.Sign.TheVariants as sign
 use Rattle.subtree_costs.specs.Costed.{IsCosted}
 use Rattle.field_state.specs.Fielded.{Fielded}
+use Rattle.field_state.specs.Placed.{NotesChanges}
 use Rattle.field_state.specs.Weighed.{IsWeighed, KeepsRest}
 use Rattle.field_state.specs.Acted.{is_told, is_brought, kept_after, restored_if, IsReady, IsKeptBy}
 use Rattle.field_state.proofs.Tallied.{due_here}
@@ -23,12 +24,12 @@ use Rattle.field_state.proofs.Doing.{kept_by}
 -- what a report leaves of the field
 module _ (g : Parts) (m t : ℕ) (slots : Slots) (f new : Fielded) (e : Evident) (after : Pull) (kept : ℕ → Kept) (ready : IsReady g t f) (lm : m < length g.meters)
     (keeps : e ≡ keeping f.evidence m slots t) (pull : after ≡ pull_by g m (kept_of e m)) (weighed : IsWeighed g new.evidence new.dark new.live)
-    (due : new.due ≡ slice_set f.due m (option_map (λ t. t.0) after.due)) (rest : KeepsRest (record f { evidence = e }) new) (costed : IsCosted g new.costs) where
+    (due : new.due ≡ slice_set f.due m (option_map (λ t. t.0) after.due)) (rest : KeepsRest (record f { evidence = e }) new) (costed : IsCosted g new.costs) (notes : NotesChanges g f.costs new.costs f.places new.places) where
   pub taken_by : record { slots = slots; at = t } ≡ kept m → ((k : ℕ) → k ≢ m → kept_of f.evidence k ≡ kept k) → IsKeptBy g t kept f new
   taken_by one others =
       kept_by g m t slots f new kept ready lm (rest.evidence ∙ keeps) weighed
       (due ∙ ap (slice_set f.due m) (due_here g m t slots f.evidence e after (omega (arith, ready.tallied.evidence.each)) keeps pull))
-      one others costed rest.now rest.applied rest.forest rest.marks
+      one others costed rest.now rest.applied rest.forest rest.marks notes
 
 told : (m : ℕ) (e : Event) (k : Kept) → is_told m e.what false ≡ true → record { slots = slots_after m e false k.slots; at = e.time.0 } ≡ kept_after m e false k
 told m e k told_of = ap (λ b. if b then record { slots = slots_after m e false k.slots; at = e.time.0 } else k) (sym told_of)

@@ -5,11 +5,13 @@ use Rattle.std.proofs.lemmas.Bool.{cases_eq, eqb-true, eq-eqb, ne_eqb}
 use Rattle.grid_model.specs.Parts.{Parts}
 use Rattle.grid_model.specs.Places.{node_of}
 use Rattle.grid_model.specs.declared.parts.NodeId.{NodeId}
+use Rattle.grid_model.specs.declared.parts.MeterId.{MeterId}
 use Rattle.radial_forest.specs.Traversed.{node_at}
 use Rattle.evidence.specs.Kept.{Kept, kept_of}
 use Rattle.field_state.specs.Fielded.{Fielded}
 use Rattle.field_state.specs.Acted.{IsKeptBy, restored_if, is_listed}
 use Rattle.field_state.proofs.Doing.{kept_then, restored_twice}
+use Rattle.field_state.proofs.Standing.{number_at, is_met}
 
 -- what is kept may be told in another way
 pub kept_same : (g : Parts) (t : ℕ) (kept again : ℕ → Kept) (a b : Fielded) → IsKeptBy g t kept a b → ((m : ℕ) → m < length g.meters → kept m ≡ again m) →
@@ -23,7 +25,20 @@ kept_same g t kept again a b by same = record {
   tallied = by.tallied;
   each = λ m lm. by.each m lm ∙ same m lm;
   due_devices = by.due_devices;
+  notes = by.notes;
 }
+
+-- one meter more comes back
+pub one_met : (g : Parts) (t : ℕ) (ms : List MeterId) (i m : ℕ) (old mid new : Fielded) → number_at ms i ≡ m →
+    IsKeptBy g t (λ k. restored_if (is_met ms i k) t (kept_of old.evidence k)) old mid →
+    IsKeptBy g t (λ k. restored_if (k == m) t (kept_of mid.evidence k)) mid new →
+    IsKeptBy g t (λ k. restored_if (is_met ms (suc i) k) t (kept_of old.evidence k)) old new
+one_met g t ms i m old mid new here first second =
+    kept_then g t (λ k. restored_if (is_met ms i k) t (kept_of old.evidence k)) (λ k. restored_if (k == m) t (kept_of mid.evidence k))
+    (λ k. restored_if (is_met ms (suc i) k) t (kept_of old.evidence k)) old mid new first second
+    (λ k lk. ap (restored_if (k == m) t) (first.each k lk)
+    ∙ restored_twice (is_met ms i k) (k == m) t (kept_of old.evidence k)
+    ∙ ap (λ x. restored_if (is_met ms i k || (k == x)) t (kept_of old.evidence k)) (sym here))
 
 eq_flips : (a b : ℕ) → (a == b) ≡ (b == a)
 eq_flips a b =
@@ -56,6 +71,16 @@ module _ (g : Parts) (t : ℕ) (nodes : List NodeId) (i n : ℕ) (fed : ℕ → 
 
   at_node_fed : (b : Bool) → fed n ≡ b → (k : ℕ) → (node_at nodes i == node_of g k) ≡ true → fed (node_of g k) ≡ b
   at_node_fed b q k e = ap fed (eqb-true (node_of g k) n (same_node k ∙ e)) ∙ q
+
+  -- whether a meter is brought back by the first nodes, with one more that is fed
+  pub more_test : fed n ≡ true → (k : ℕ) → (is_listed nodes (suc i) (node_of g k) && fed (node_of g k)) ≡ ((is_listed nodes i (node_of g k) && fed (node_of g k)) || (node_of g k == n))
+  more_test q k =
+      sym (ap (λ b. (is_listed nodes i (node_of g k) && fed (node_of g k)) || b) (same_node k)
+      ∙ more_fed (is_listed nodes i (node_of g k)) (fed (node_of g k)) (node_at nodes i == node_of g k) (at_node_fed true q k))
+
+  -- and with one that isn't
+  pub no_more_test : fed n ≡ false → (k : ℕ) → (is_listed nodes (suc i) (node_of g k) && fed (node_of g k)) ≡ (is_listed nodes i (node_of g k) && fed (node_of g k))
+  no_more_test q k = sym (no_more_fed (is_listed nodes i (node_of g k)) (fed (node_of g k)) (node_at nodes i == node_of g k) (at_node_fed false q k))
 
   pub one_more : (mid new : Fielded) → fed n ≡ true →
       IsKeptBy g t (λ k. restored_if (is_listed nodes i (node_of g k) && fed (node_of g k)) t (kept_of old.evidence k)) old mid →

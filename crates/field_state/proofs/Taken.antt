@@ -1,5 +1,6 @@
 -- What a meter weighs takes the place of what it weighed.
 use Rattle.std.proofs.Common.{◌≡◌, ◌≢◌, ℕ, ◌+◌, ◌-◌, ◌<◌, ◌≤◌, List, length, set, get_or, sym, ap, ◌∙◌, subst, arith, length-set}
+use Rattle.std.proofs.lemmas.List.{set-get_or}
 use Rattle.grid_model.specs.Parts.{Parts}
 use Rattle.grid_model.specs.Places.{node_of}
 use Rattle.grid_model.specs.Sound.{IsSoundParts}
@@ -76,6 +77,20 @@ taken g m before after f sound l w a =
 
     lives : in_place f.live (node_of g m) before.live after.live ≡ in_place f.live (node_of g m) (live_kept g w.was m) (live_kept g f.evidence m)
     lives = ap (λ b. in_place f.live (node_of g m) b after.live) (ap (λ p. p.live) w.weight) ∙ ap (in_place f.live (node_of g m) (live_kept g w.was m)) (ap (λ p. p.live) a)
+
+-- nothing in place of what weighs the same
+same_in_place : (sums : List ℕ) (n before after : ℕ) → before ≡ after → before ≤ get_or sums n 0 → in_place sums n before after ≡ sums
+same_in_place sums n before after e l =
+    ap (set sums n) (let q : (get_or sums n 0 - before) + after ≡ get_or sums n 0 = omega arith in q) ∙ set-get_or sums n 0
+
+-- where a meter weighs what it weighed, the sums stay
+pub untaken : (g : Parts) (m : ℕ) (before after : Pull) (f : Fielded) → IsSoundParts g → m < length g.meters → WasWeighed g m before f
+    → after ≡ pull_by g m (kept_of f.evidence m) → before.dark ≡ after.dark → before.live ≡ after.live → IsWeighed g f.evidence f.dark f.live
+untaken g m before after f sound l w a same_dark same_live =
+    subst (λ xs. IsWeighed g f.evidence xs f.live) (same_in_place f.dark (node_of g m) before.dark after.dark same_dark (dark_fits g m before f sound l w).0)
+    (subst (IsWeighed g f.evidence (in_place f.dark (node_of g m) before.dark after.dark))
+    (same_in_place f.live (node_of g m) before.live after.live same_live (live_fits g m before f sound l w).0)
+    (taken g m before after f sound l w a))
 
 -- the same, where the old sums were read
 pub taken_in : (g : Parts) (m : ℕ) (before after : Pull) (f : Fielded) → IsSoundParts g → m < length g.meters → WasWeighed g m before f

@@ -1,5 +1,5 @@
 -- What an event does to the field where nothing is due.
-use Rattle.std.specs.Prelude.{◌≡◌, ℕ, ◌+◌, ◌<◌, Bool, false, ◌||◌, ◌&&◌, not, ◌==◌, nat_lt, List, length, slice_index_or, slice_set, Option, Some, None, if◌then◌else◌}
+use Rattle.std.specs.Prelude.{◌≡◌, ℕ, ◌+◌, ◌<◌, Bool, true, false, ◌||◌, ◌&&◌, not, ◌==◌, nat_lt, List, length, slice_index_or, slice_set, Option, Some, None, if◌then◌else◌}
 use Rattle.grid_model.specs.Parts.{Parts}
 use Rattle.grid_model.specs.Places.{node_of, setting_of}
 use Rattle.grid_model.specs.Sound.{IsSoundParts}
@@ -26,6 +26,7 @@ use Rattle.history_rules.specs.Evidence.{is_call_of, is_signal_of}
 use Rattle.history_rules.specs.Slots.{slots_after, slots_restored, end_after}
 use Rattle.evidence.specs.Kept.{Kept, kept_of}
 use Rattle.field_state.specs.Fielded.{Fielded, fine_end_by}
+use Rattle.field_state.specs.Placed.{NotesChanges}
 use Rattle.field_state.specs.Weighed.{IsTallied}
 
 -- the event tells of the meter, or brings it back
@@ -68,6 +69,11 @@ closes_loop g closed _ = false
 abbrev pub rule_in : Parts → List Bool → What → Option Refusal
 rule_in g closed w = if stands_open closed w then Some NotClosed else (if closes_loop g closed w then Some Loop else None)
 
+-- the event is a switching order
+abbrev pub is_switching : What → Bool
+is_switching (Order x w) = true
+is_switching _ = false
+
 -- all but what is kept of the reports stays, and of each meter this is kept
 pub record IsKeptBy (g : Parts) (t : ℕ) (kept : ℕ → Kept) (old new : Fielded) : Type 0 where
   pub now : new.now ≡ old.now
@@ -78,6 +84,7 @@ pub record IsKeptBy (g : Parts) (t : ℕ) (kept : ℕ → Kept) (old new : Field
   pub tallied : IsTallied g t new
   pub each : (m : ℕ) → m < length g.meters → kept_of new.evidence m ≡ kept m
   pub due_devices : (d : ℕ) → slice_index_or new.due (length g.meters + d) None ≡ slice_index_or old.due (length g.meters + d) None
+  pub notes : NotesChanges g old.costs new.costs old.places new.places
 
 -- what is kept of a meter that a restoration at this time may bring back
 abbrev pub restored_if : Bool → ℕ → Kept → Kept
@@ -98,6 +105,7 @@ pub record IsMarkedBy (g : Parts) (d : ℕ) (mark : Mark) (end : Option ℕ) (ol
   pub dark : new.dark ≡ old.dark
   pub live : new.live ≡ old.live
   pub due : new.due ≡ slice_set old.due (length g.meters + d) end
+  pub notes : NotesChanges g old.costs new.costs old.places new.places
 
 -- a device is in the state that an order wants, and all but the trees and rows stays
 pub record IsTurned (g : Parts) (d : DeviceId) (w : Want) (old new : Fielded) : Type 0 where
@@ -127,3 +135,4 @@ pub record IsDone (g : Parts) (e : Event) (old new : Fielded) : Type 0 where
       ≡ fine_end_by e.what (end_after e.time.0 (e.time.0 + setting_of g OkHold)) d (slice_index_or old.due (length g.meters + d) None)
   pub kept : (m : ℕ) → m < length g.meters →
       kept_of new.evidence m ≡ kept_after m e (is_brought g old.forest.closed m e.what) (kept_of old.evidence m)
+  pub notes : is_switching e.what ≡ false → NotesChanges g old.costs new.costs old.places new.places

@@ -8,6 +8,7 @@ use Rattle.grid_model.specs.Sound.{IsSoundParts}
 use Rattle.grid_model.specs.Network.{network_in}
 use Rattle.grid_model.specs.Problem as problem
 use Rattle.grid_model.specs.declared.parts.Setting.TheVariants.{OkHold}
+use Rattle.grid_model.specs.declared.parts.NodeId.{NodeId}
 use Rattle.grid_model.specs.declared.history.Event.{Event}
 use Rattle.grid_model.specs.declared.history.What.{What}
 use Rattle.grid_model.specs.declared.history.What.TheVariants.{Confirm, Restore, Order}
@@ -23,7 +24,8 @@ use Rattle.evidence.specs.Kept.{Evident, IsEvidenceOf, kept_of, pull_by, stamp_a
 use Rattle.evidence.specs.declared.Pull.{Pull}
 
 -- the clock and the number of events; the least costs of the parts, with the trees of the closed devices, the marks by device, and the sums of the
--- reports by node; what is kept of the reports by meter; and when each meter's weights change next by themselves, and behind the meters each device's mark
+-- reports by node; what is kept of the reports by meter; when each meter's weights change next by themselves, and behind the meters each device's mark;
+-- and the nodes where the last applied event, if it was no switching, changed weights, and the lower ends of the closed devices whose marks it changed
 pub record Fielded : Type 0 where
   pub now : ℕ
   pub applied : ℕ
@@ -31,6 +33,7 @@ pub record Fielded : Type 0 where
   pub open costs use *
   pub evidence : Evident
   pub due : List (Option ℕ)
+  pub places : List NodeId
 
 -- the end of the hold that an event leaves on the mark of device d, by the one before it
 abbrev pub fine_end_by : What → Option ℕ → ℕ → Option ℕ → Option ℕ

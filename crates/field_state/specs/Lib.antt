@@ -2,5 +2,8 @@ pub mod Acted
 pub mod FieldInside
 pub mod FieldKept
 pub mod Fielded
+pub mod Placed
+pub mod PlacesInside
+pub mod Repairs
 pub mod StateInside
 pub mod Weighed

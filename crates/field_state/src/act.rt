@@ -11,7 +11,7 @@ use subtree_costs::Steps;
 use switching::{Change, decide};
 
 impl State {
-    ghost use Rattle.std.specs.Prelude.{◌≡◌, ◌≤◌, ◌<◌, ◌+◌, ◌==◌, ◌&&◌, ℕ, List, ◌∷◌, None, true, false, length, slice_index_or, nat_lt};
+    ghost use Rattle.std.specs.Prelude.{◌≡◌, ◌≤◌, ◌<◌, ◌+◌, ◌*◌, ◌==◌, ◌&&◌, ℕ, List, ◌∷◌, None, true, false, length, slice_index_or, nat_lt};
     ghost use Rattle.radial_forest.specs.Traversed.{node_at};
     ghost use Rattle.outage_rules.specs.Loops.{would_loop};
     ghost use Rattle.grid_model.specs.Places.{node_of, setting_of};
@@ -29,14 +29,18 @@ impl State {
     ghost use Rattle.grid_model.specs.declared.history.Event.{Event};
     ghost use Rattle.history_rules.specs.Posed.{IsOfGrid, refusal_of};
     ghost use Rattle.field_state.specs.FieldKept.{IsFieldAt};
-    ghost use Rattle.field_state.specs.Acted.{rule_in, IsReady, IsKeptBy, IsMarkedBy, IsTurned, IsDone, restored_if, is_listed, is_brought};
+    ghost use Rattle.field_state.specs.Acted.{rule_in, IsReady, IsKeptBy, IsMarkedBy, IsTurned, IsDone, restored_if, is_listed, is_brought, is_switching};
+    ghost use Rattle.field_state.specs.Placed.{NotesChanges};
+    ghost use Rattle.field_state.specs.Repairs.{AreReaches, meter_length, device_length, named_length, restores_cost, spent};
 
     // A call of a meter.
     fn call<L: Ledger>(&mut self, grid: &Grid, m: MeterId, now: Stamp, steps: &mut Steps<L>)
         requires ready { IsReady grid.now now.0 self.old }
         requires meter { m.0 < length grid.now.meters }
         requires range { now.0 ≤ 253_402_300_799 }
-        ensures { IsDone grid.now (record { time = now; what = what.Call m }) self.old self.new }
+        ensures done { IsDone grid.now (record { time = now; what = what.Call m }) self.old self.new }
+        ensures steps { (reach : ℕ → ℕ) → AreReaches grid.now self.old.forest.closed reach
+            → spent grid.now self.new steps.new ≤ spent grid.now self.old steps.old + 6 * meter_length grid.now reach m.0 }
     {
         let before = self.evidence.pull(m);
         let after = self.evidence.call(grid, m, now);
@@ -55,7 +59,9 @@ impl State {
         requires ready { IsReady grid.now now.0 self.old }
         requires meter { m.0 < length grid.now.meters }
         requires range { now.0 ≤ 253_402_300_799 }
-        ensures { IsDone grid.now (record { time = now; what = sign_what sign m }) self.old self.new }
+        ensures done { IsDone grid.now (record { time = now; what = sign_what sign m }) self.old self.new }
+        ensures steps { (reach : ℕ → ℕ) → AreReaches grid.now self.old.forest.closed reach
+            → spent grid.now self.new steps.new ≤ spent grid.now self.old steps.old + 6 * meter_length grid.now reach m.0 }
     {
         let before = self.evidence.pull(m);
         let after = self.evidence.signal(grid, m, sign, now);
@@ -73,7 +79,9 @@ impl State {
         requires ready { IsReady grid.now now.0 self.old }
         requires meter { m.0 < length grid.now.meters }
         requires range { now.0 ≤ 253_402_300_799 }
-        ensures { IsKeptBy grid.now now.0 (λ k. restored_if (k == m.0) now.0 (kept_of self.old.evidence k)) self.old self.new }
+        ensures kept { IsKeptBy grid.now now.0 (λ k. restored_if (k == m.0) now.0 (kept_of self.old.evidence k)) self.old self.new }
+        ensures steps { (reach : ℕ → ℕ) → AreReaches grid.now self.old.forest.closed reach
+            → spent grid.now self.new steps.new ≤ spent grid.now self.old steps.old + restores_cost grid.now now.0 reach self.old.evidence (λ k. k == m.0) }
     {
         let before = self.evidence.pull(m);
         let after = self.evidence.restored(grid, m, now);
@@ -85,7 +93,9 @@ impl State {
         requires ready { IsReady grid.now now.0 self.old }
         requires node { n.0 < length grid.now.nodes }
         requires range { now.0 ≤ 253_402_300_799 }
-        ensures { IsKeptBy grid.now now.0 (λ k. restored_if (node_of grid.now k == n.0) now.0 (kept_of self.old.evidence k)) self.old self.new }
+        ensures kept { IsKeptBy grid.now now.0 (λ k. restored_if (node_of grid.now k == n.0) now.0 (kept_of self.old.evidence k)) self.old self.new }
+        ensures steps { (reach : ℕ → ℕ) → AreReaches grid.now self.old.forest.closed reach
+            → spent grid.now self.new steps.new ≤ spent grid.now self.old steps.old + restores_cost grid.now now.0 reach self.old.evidence (λ k. node_of grid.now k == n.0) }
     {
         for m in grid.meters_at(n) {
             self.restore_meter(grid, *m, now, steps);
@@ -103,9 +113,12 @@ impl State {
         requires ready { IsReady grid.now now.0 self.old }
         requires nodes { (i : ℕ) → i < length nodes.now → node_at nodes.now i < length grid.now.nodes }
         requires range { now.0 ≤ 253_402_300_799 }
-        ensures { IsKeptBy grid.now now.0
+        ensures kept { IsKeptBy grid.now now.0
             (λ k. restored_if (is_listed nodes.now (length nodes.now) (node_of grid.now k)
             && is_fed (network_in grid.now (λ e. slice_index_or self.old.forest.closed e false)) (node_of grid.now k)) now.0 (kept_of self.old.evidence k)) self.old self.new }
+        ensures steps { (reach : ℕ → ℕ) → AreReaches grid.now self.old.forest.closed reach
+            → spent grid.now self.new steps.new ≤ spent grid.now self.old steps.old + restores_cost grid.now now.0 reach self.old.evidence
+            (λ k. is_listed nodes.now (length nodes.now) (node_of grid.now k) && is_fed (network_in grid.now (λ e. slice_index_or self.old.forest.closed e false)) (node_of grid.now k)) }
     {
         for n in nodes {
             if self.costs.forest().is_fed(grid, *n) {
@@ -121,8 +134,10 @@ impl State {
         requires closed { slice_index_or self.old.forest.closed d.0 false ≡ true }
         requires due { length self.old.due ≡ length grid.now.meters + length grid.now.devices }
         requires range { now.0 ≤ 253_402_300_799 }
-        ensures { IsMarkedBy grid.now d.0 (fine_while (nat_lt now.0 (now.0 + setting_of grid.now OkHold)))
+        ensures marked { IsMarkedBy grid.now d.0 (fine_while (nat_lt now.0 (now.0 + setting_of grid.now OkHold)))
             (end_after now.0 (now.0 + setting_of grid.now OkHold)) self.old self.new }
+        ensures steps { (reach : ℕ → ℕ) → AreReaches grid.now self.old.forest.closed reach
+            → spent grid.now self.new steps.new ≤ spent grid.now self.old steps.old + 6 * device_length grid.now reach d.0 }
     {
         let hold = grid.setting(Setting::OkHold);
         if hold > 0 {
@@ -145,7 +160,9 @@ impl State {
         requires device { d.0 < length grid.now.devices }
         requires closed { slice_index_or self.old.forest.closed d.0 false ≡ true }
         requires range { now.0 ≤ 253_402_300_799 }
-        ensures { IsDone grid.now (record { time = now; what = what.Confirm d said }) self.old self.new }
+        ensures done { IsDone grid.now (record { time = now; what = what.Confirm d said }) self.old self.new }
+        ensures steps { (reach : ℕ → ℕ) → AreReaches grid.now self.old.forest.closed reach
+            → spent grid.now self.new steps.new ≤ spent grid.now self.old steps.old + 6 * device_length grid.now reach d.0 }
     {
         match said {
             Confirmed::Opened => self.take_mark(grid, d, Mark::Opened, None, steps),
@@ -168,7 +185,9 @@ impl State {
         requires closed { slice_index_or self.old.forest.closed d.0 false ≡ true }
         requires room { length room.old ≡ length grid.now.nodes }
         requires range { now.0 ≤ 253_402_300_799 }
-        ensures { IsKeptBy grid.now now.0 (λ k. restored_if (is_brought grid.now self.old.forest.closed k (what.Restore d)) now.0 (kept_of self.old.evidence k)) self.old self.new }
+        ensures kept { IsKeptBy grid.now now.0 (λ k. restored_if (is_brought grid.now self.old.forest.closed k (what.Restore d)) now.0 (kept_of self.old.evidence k)) self.old self.new }
+        ensures steps { (reach : ℕ → ℕ) → AreReaches grid.now self.old.forest.closed reach
+            → spent grid.now self.new steps.new ≤ spent grid.now self.old steps.old + restores_cost grid.now now.0 reach self.old.evidence (λ k. is_brought grid.now self.old.forest.closed k (what.Restore d)) }
     {
         let count = self.costs.forest().walk_below(grid, d, room);
         self.restore_nodes(grid, &room[..count], now, steps);
@@ -188,7 +207,10 @@ impl State {
         requires closed { slice_index_or self.old.forest.closed d.0 false ≡ true }
         requires room { length room.old ≡ length grid.now.nodes }
         requires range { now.0 ≤ 253_402_300_799 }
-        ensures { IsDone grid.now (record { time = now; what = what.Restore d }) self.old self.new }
+        ensures done { IsDone grid.now (record { time = now; what = what.Restore d }) self.old self.new }
+        ensures steps { (reach : ℕ → ℕ) → AreReaches grid.now self.old.forest.closed reach
+            → spent grid.now self.new steps.new ≤ spent grid.now self.old steps.old + (restores_cost grid.now now.0 reach self.old.evidence (λ k. is_brought grid.now self.old.forest.closed k (what.Restore d))
+            + 6 * device_length grid.now reach d.0) }
     {
         self.bring_back(grid, d, now, room, steps);
         self.mark_fine(grid, d, now, steps);
@@ -236,7 +258,10 @@ impl State {
         requires allowed { rule_in grid.now self.old.forest.closed event.what ≡ None }
         requires room { length room.old ≡ length grid.now.nodes }
         requires range { event.time.0 ≤ 253_402_300_799 }
-        ensures { IsDone grid.now event self.old self.new }
+        ensures done { IsDone grid.now event self.old self.new }
+        ensures steps { is_switching event.what ≡ false → (reach : ℕ → ℕ) → AreReaches grid.now self.old.forest.closed reach
+            → spent grid.now self.new steps.new ≤ spent grid.now self.old steps.old
+            + (restores_cost grid.now event.time.0 reach self.old.evidence (λ k. is_brought grid.now self.old.forest.closed k event.what) + 6 * named_length grid.now reach event.what) }
     {
         match event.what {
             What::Call(m) => self.call(grid, m, event.time, steps),
@@ -267,6 +292,10 @@ impl State {
         ensures at { (h : List Event) → IsFieldAt grid.now h event.time.0 self.old → refusal_of grid.now h event ≡ None
             → IsFieldAt grid.now (event ∷ h) event.time.0 self.new }
         ensures same { (self.new.now ≡ self.old.now) × (self.new.applied ≡ self.old.applied) }
+        ensures notes { is_switching event.what ≡ false → NotesChanges grid.now self.old.costs self.new.costs self.old.places self.new.places }
+        ensures steps { is_switching event.what ≡ false → (reach : ℕ → ℕ) → AreReaches grid.now self.old.forest.closed reach
+            → spent grid.now self.new steps.new ≤ spent grid.now self.old steps.old
+            + (restores_cost grid.now event.time.0 reach self.old.evidence (λ k. is_brought grid.now self.old.forest.closed k event.what) + 6 * named_length grid.now reach event.what) }
     {
         self.perform(grid, event, room, steps);
     }

@@ -7,8 +7,8 @@ use subtree_costs::CostForest;
 
 /// The state of a network after events: the clock and how many events were applied, the least costs
 /// of its parts by the states and marks of the devices and the weights of the reports at each node,
-/// what is kept of the reports of each meter, and when each of all this changes next by the passing
-/// of time alone.
+/// what is kept of the reports of each meter, when each of all this changes next by the passing of
+/// time alone, and where the last applied event changed it.
 #[derive(Drop)]
 pub struct Field {
     pub(crate) state: State,
@@ -79,6 +79,15 @@ impl Field {
         ensures { result.now ≡ self.now.costs }
     {
         &self.state.costs
+    }
+
+    /// The nodes where the last applied event, if it was no switching, changed the weights of reports,
+    /// and the lower ends of the closed devices whose marks it changed, each once. Nothing is said of
+    /// it after a switching.
+    pub fn places(&self) -> &[NodeId]
+        ensures { result.now ≡ self.now.places }
+    {
+        self.state.places.all()
     }
 
     /// What is kept of the reports.

@@ -8,6 +8,7 @@ mod field;
 mod kept;
 mod laws;
 mod new;
+mod places;
 mod state;
 
 pub use field::Field;

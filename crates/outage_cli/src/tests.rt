@@ -286,6 +286,24 @@ fn writes_nothing(rt: HostRuntime) -> Result<(), Fail> {
     Ok(())
 }
 
+// What a run of these words answers over a network that is refused, and that nothing was written.
+fn run_refused(rt: &impl Abort, alloc: Global, texts: &[&str]) -> Result<(), AllocError> {
+    let files = shelf(alloc, LOOPED, CALLS.as_bytes(), Vec::new(alloc), 5)?;
+    let rule = GridRule::Loop;
+    let refused = Status::NetworkRefused { line: 10, rule };
+    expect_run(rt, alloc, files, Vec::new(alloc), 7, texts, refused, "")
+}
+
+// A network is judged before the events are started, and before a report is.
+#[test]
+fn tells_the_first_cause(rt: HostRuntime) -> Result<(), Fail> {
+    let alloc = rt.alloc();
+    run_refused(&rt, alloc, &["outage", "replay", "n", "missing"])?;
+    run_refused(&rt, alloc, &["outage", "check", "n", "missing", "missing"])?;
+    run_refused(&rt, alloc, &["outage", "check", "n", "e", "missing"])?;
+    Ok(())
+}
+
 // What the worked run writes without its bounds part, and its bounds part.
 const WRITTEN: &str = "cost,1,30\n\
 enters,2,F1\n\

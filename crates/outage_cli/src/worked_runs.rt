@@ -413,6 +413,33 @@ end\n",
     Ok(())
 }
 
+// An order opens a device of the diagnosis, which leaves it then: who was dark stays so.
+#[test]
+fn opens_what_is_blamed(rt: HostRuntime) -> Result<(), Fail> {
+    let cases = [Case {
+        net: NET,
+        events: "2024-03-01T10:00:00Z,call,M1\n\
+2024-03-01T10:01:00Z,call,M2\n\
+2024-03-01T10:02:00Z,open,F1\n",
+        written: "cost,1,30\n\
+enters,2,F1\n\
+cost,2,40\n\
+leaves,3,F1\n\
+cost,3,0\n\
+report,2024-03-01T10:02:00Z\n\
+counts,3,0\n\
+total,0\n\
+line,M1,2024-03-01T10:01:00Z,open\n\
+line,M2,2024-03-01T10:01:00Z,open\n\
+index,saifi,0/1,0.0000\n\
+index,saidi,0/1,0.0000\n\
+index,caidi,none\n\
+end\n",
+    }];
+    run_cases(&rt, rt.alloc(), &cases)?;
+    Ok(())
+}
+
 // A part that is hung the other way round, and what is written of it.
 const TURNED: &str = "2024-03-01T10:00:00Z,open,F1\n\
 2024-03-01T10:10:00Z,close,X1\n";

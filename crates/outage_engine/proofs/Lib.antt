@@ -4,3 +4,5 @@ pub mod BoundingRows
 pub mod BoundingRange
 pub mod AfterEvents
 pub mod Recorded
+pub mod Telling
+pub mod Working

@@ -1,5 +1,5 @@
 -- Recording a judgement leads from the ledger of the events before to that of all.
-use Rattle.std.proofs.Common.{◌≡◌, ℕ, ◌<◌, Bool, false, not, List, [], ◌∷◌, length, map, get_or, ap, ◌∙◌, arith}
+use Rattle.std.proofs.Common.{◌≡◌, ℕ, ◌<◌, Bool, false, not, List, [], ◌∷◌, length, map, get_or, sym, ap, ◌∙◌, arith}
 use Rattle.std.proofs.lemmas.List.{length-map, get_or-map}
 use Rattle.outage_rules.specs.Network.{is_live}
 use Rattle.grid_model.specs.Parts.{Parts}
@@ -13,7 +13,7 @@ use Rattle.history_rules.specs.Ledger.{Interrupted, interrupted_first, interrupt
 use Rattle.diagnosis.specs.Judgement.{Judgement, TellsDark, opened_by}
 use Rattle.interruption_ledger.specs.Laws.{LedgerIsKept}
 use Rattle.interruption_ledger.specs.Ledgered.{Ledgered}
-use Rattle.outage_engine.specs.Recording.{is_meter_dark, recorded, IsFirstLedger, IsRecordedBelow, IsLedgerAfter}
+use Rattle.outage_engine.specs.Recording.{is_meter_dark, recorded, IsFirstLedger, AreFlagsOf, IsRecorded, IsLedgerAfter}
 
 -- a meter is judged dark where its node is flagged
 tells_meter : (g : Parts) (h : List Event) (j : Judgement) → IsSoundParts g → TellsDark (problem_after g h) j → opened_by j ≡ diagnosis_after g h
@@ -39,12 +39,18 @@ one_more m t b now before k of_events is_now is_kept is_before =
 
 pub next_ledger_is : (g : Parts) (h : List Event) (e : Event) (j : Judgement) (old new : Ledgered) → LedgerIsKept → IsSoundParts g
     → TellsDark (problem_after g (e ∷ h)) j → opened_by j ≡ diagnosis_after g (e ∷ h)
-    → IsLedgerAfter g h old → IsRecordedBelow g j e.time (length g.meters) old new → IsLedgerAfter g (e ∷ h) new
+    → IsLedgerAfter g h old → IsRecorded g j e.time old new → IsLedgerAfter g (e ∷ h) new
 next_ledger_is g h e j old new law sound tells opened was recorded = record {
   each = recorded.each ∙ was.each;
   kept = λ m within. recorded.done m within
       ∙ one_more m e.time _ _ _ _ _ (tells_meter g (e ∷ h) j sound tells opened m within) (was.kept m within) (law m (is_judged_dark g m) h).is_dark;
 }
+
+-- before an event the ledger's flags are those of the nodes
+pub flags_are : (g : Parts) (h : List Event) (j : Judgement) (l : Ledgered) → LedgerIsKept → IsSoundParts g → TellsDark (problem_after g h) j → opened_by j ≡ diagnosis_after g h
+    → IsLedgerAfter g h l → AreFlagsOf g j.dark l
+flags_are g h j l law sound tells opened was m within =
+    ap (λ k. k.dark) (was.kept m within) ∙ (law m (is_judged_dark g m) h).is_dark ∙ sym (tells_meter g h j sound tells opened m within)
 
 -- the ledger of flags by meter
 pub of_flags : (g : Parts) (j : Judgement) (flags : List Bool) (l : Ledgered) → length flags ≡ length g.meters

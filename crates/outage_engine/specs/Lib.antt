@@ -2,3 +2,5 @@ pub mod Recording
 pub mod Engined
 pub mod EngineInside
 pub mod Bounding
+pub mod Settled
+pub mod Work

@@ -4,9 +4,10 @@ ghost use Rattle.std.specs.Prelude.{◌≡◌};
 
 use crate::Applied;
 use crate::bounds::bounds_of;
-use crate::recording::{first_ledger, record_meters};
+use crate::judging::{is_switching, judge_field};
+use crate::recording::{first_ledger, record_flipped};
 use bound_table::Bounds;
-use diagnosis::Judged;
+use diagnosis::{Judged, changes_can_be_settled};
 use field_state::{Field, field_poses};
 use grid_model::{Event, Grid, Refusal, Stamp};
 use history_rules::history_is_diagnosed;
@@ -38,7 +39,7 @@ impl Model for Engine {
 }
 
 impl Engine {
-    ghost use Rattle.std.specs.Prelude.{◌≡◌, ◌≤◌, ◌<◌, ◌+◌, ◌^◌, ℕ, List, [], ◌∷◌, length, map, Ok, Err, IfOk, OnErr};
+    ghost use Rattle.std.specs.Prelude.{◌≡◌, ◌≤◌, ◌<◌, ◌+◌, ◌^◌, ℕ, true, false, List, [], ◌∷◌, length, map, Ok, Err, IfOk, OnErr};
     ghost use Rattle.grid_model.specs.declared.history.Event.{Event};
     ghost use Rattle.grid_model.specs.declared.history.Refusal.{Refusal};
     ghost use Rattle.history_rules.specs.Posed.{problem_after, refusal_of, joined, IsOfGrid};
@@ -46,8 +47,11 @@ impl Engine {
     ghost use Rattle.bound_table.specs.Tight.{tight_bounds};
     ghost use Rattle.bound_table.specs.Sound.{IsTableOf};
     ghost use Rattle.field_state.specs.Fielded.{IsFieldAfter, IsField};
+    ghost use Rattle.field_state.specs.Acted.{is_switching};
     ghost use Rattle.outage_engine.specs.declared.Applied.{Applied};
-    ghost use Rattle.outage_engine.specs.Recording.{IsLedgerAfter};
+    ghost use Rattle.outage_engine.specs.Recording.{AreFlagsOf, IsLedgerAfter};
+    ghost use Rattle.outage_engine.specs.Settled.{CanBeSettled, settle_work};
+    ghost use Rattle.outage_engine.specs.Work.{AreReachesAfter, event_work};
     ghost use Rattle.outage_engine.specs.Engined.{IsEngineAfter, IsEngine, answer_by};
 
     /// The engine of a network before any event. An error says that memory ran out.
@@ -102,17 +106,22 @@ impl Engine {
         self.field.costs().total()
     }
 
-    // Judges what the field poses, and records which meters went dark or live at the time.
-    fn judge<L: Counter>(&mut self, at: Stamp, steps: &mut Steps<L>)
+    // Judges what the field poses after an event, and records which meters went dark or live at the
+    // time.
+    fn judge<L: Counter>(&mut self, at: Stamp, switched: bool, steps: &mut Steps<L>)
         requires field { IsField self.old.grid self.old.field }
         requires sized { IsSized (length self.old.grid.nodes) (length self.old.grid.devices) self.old.judged }
         requires each { length self.old.ledger.meters ≡ length self.old.grid.meters }
+        requires settled { switched ≡ false → CanBeSettled self.old.grid self.old.field self.old.judged }
+        requires flags { AreFlagsOf self.old.grid self.old.judged.dark self.old.ledger }
         requires spare { length self.old.grid.meters ≤ self.old.ledger.spare }
         requires range { at.0 ≤ 253_402_300_799 }
         ensures grid { self.new.grid ≡ self.old.grid }
         ensures after { (h : List Event) (e : Event) → e.time ≡ at → IsFieldAfter self.old.grid (e ∷ h) self.old.field → IsLedgerAfter self.old.grid h self.old.ledger → IsEngineAfter (e ∷ h) self.new }
         ensures changed { map (λ d. d.0) self.new.judged.changed ≡ differences self.old.judged.opened self.new.judged.opened }
         ensures spare { self.old.ledger.spare ≤ self.new.ledger.spare + length self.old.grid.meters }
+        ensures anew { switched ≡ true → steps.new ≤ steps.old + length self.old.grid.nodes }
+        ensures steps { switched ≡ false → steps.new ≤ steps.old + settle_work self.old.grid self.old.field self.old.judged self.new.judged }
     {
         field_poses();
         history_is_diagnosed();
@@ -121,12 +130,17 @@ impl Engine {
         ledger_is_kept();
         fed_rows_are_exact();
         total_is_least();
-        self.judged.recompute(&self.grid, self.field.costs(), steps);
-        record_meters(&self.grid, &self.judged, &mut self.ledger, at);
+        self.judged.begin();
+        judge_field(&self.grid, &self.field, &mut self.judged, switched, steps);
+        record_flipped(&self.grid, &self.judged, &mut self.ledger, at);
     }
 
     /// Applies an event, or refuses it by the first rule that it breaks: then everything stands as
     /// before, and no step is taken. Takes no memory, but room for a line a meter.
+    ///
+    /// An event that is no switching takes at most six steps for each repair and for each device on the
+    /// walk that it repairs, which is no longer than the reach of its node, and one for each device at a
+    /// node that flips, whatever the size of the network. Nothing is said of the steps of a switching.
     pub fn apply<L: Counter>(
         &mut self,
         event: Event,
@@ -145,10 +159,14 @@ impl Engine {
         ensures engine { IsEngine self.new }
         ensures changed { (applied : Applied) → result ≡ Ok applied → map (λ d. d.0) self.new.judged.changed ≡ differences self.old.judged.opened self.new.judged.opened }
         ensures spare { self.old.ledger.spare ≤ self.new.ledger.spare + length self.old.grid.meters }
+        ensures steps { (h : List Event) (reach : ℕ → ℕ) → IsEngineAfter h self.old → AreReachesAfter self.old.grid h reach → is_switching event.what ≡ false
+            → steps.new ≤ steps.old + event_work self.old.grid h event reach }
     {
+        ledger_is_kept();
+        changes_can_be_settled();
         let cost_before = self.least_cost();
         self.field.apply(&self.grid, event, steps)?;
-        self.judge(event.time, steps);
+        self.judge(event.time, is_switching(event.what), steps);
         Ok(Applied {
             cost_before,
             cost_after: self.least_cost(),

@@ -4,6 +4,7 @@
 
 mod bounds;
 mod engine;
+mod judging;
 mod recording;
 
 pub use engine::Engine;

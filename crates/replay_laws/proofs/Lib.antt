@@ -6,3 +6,4 @@ pub mod RowLines
 pub mod ReportLines
 pub mod LinesBefore
 pub mod OwnReport
+pub mod Exchanges

@@ -5,7 +5,9 @@ ghost use Rattle.field_state.specs.Fielded.{IsField};
 use crate::counted::apply_event;
 use crate::networks::{BREAKER, network};
 use field_state::Field;
-use grid_model::{Confirmed, DeviceId, Event, Grid, Mark, MeterId, Refusal, Stamp, Want, What};
+use grid_model::{
+    Confirmed, DeviceId, Event, Grid, Mark, MeterId, NodeId, Refusal, Stamp, Want, What,
+};
 use std::alloc::AllocError;
 use std::process::Abort;
 
@@ -136,5 +138,47 @@ fn applies_and_refuses(rt: HostRuntime) -> Result<(), AllocError> {
         step(&rt, &mut field, &grid, case);
     }
     assert!(rt; field.now() == Stamp(1300) && field.applied() == 13);
+    Ok(())
+}
+
+// Applies an event, and says whether it changes something at the meter's node, which is also the lower
+// end of the breaker: the only place then.
+fn changes(rt: &impl Abort, field: &mut Field, grid: &Grid, time: u64, what: What) -> bool
+    requires field { IsField grid.now field.old }
+    ensures { IsField grid.now field.new }
+{
+    let event = Event {
+        time: Stamp(time),
+        what,
+    };
+    assert!(rt; apply_event(rt, field, grid, event).is_ok());
+    let places = field.places();
+    assert!(rt; places.is_empty() || places == [NodeId(1)].as_slice());
+    !places.is_empty()
+}
+
+// A call after a gasp weighs more, a second gasp as much. A restoration brings the meter back and marks
+// the breaker, both at one place, until the grace and the hold end.
+#[test]
+fn says_where_it_changed(rt: HostRuntime) -> Result<(), AllocError> {
+    let alloc = rt.alloc();
+    let grid = network(&rt, alloc, BREAKER, 2, 1, 1);
+    let mut field = Field::new(alloc, &grid)?;
+    assert!(rt; field.places().is_empty());
+    let (m, d) = (MeterId(0), DeviceId(0));
+    let cases = [
+        (100, What::Gasp(m), true),
+        (110, What::Gasp(m), false),
+        (120, What::Call(m), true),
+        (130, What::Clock, false),
+        (160, What::Restore(d), true),
+        (279, What::Clock, false),
+        (280, What::Clock, true),
+        (1060, What::Clock, true),
+        (1061, What::Confirm(d, Confirmed::Cleared), false),
+    ];
+    for (time, what, changed) in cases {
+        assert!(rt; changes(&rt, &mut field, &grid, time, what) == changed);
+    }
     Ok(())
 }

@@ -37,6 +37,25 @@ fn begins_at_rest(rt: HostRuntime) -> Result<(), AllocError> {
     Ok(())
 }
 
+// The node that hangs from a closed device.
+fn expect_end(rt: &impl Abort, grid: &Grid, costs: &CostForest, d: DeviceId, end: NodeId)
+    requires { IsCosted grid.now costs.now }
+{
+    assert!(rt; d.0 < grid.devices());
+    assert!(rt; costs.forest().is_closed(d));
+    assert_eq!(rt; costs.lower_end(grid, d), end);
+}
+
+// The breaker leads down to A, its second end, and the fuse to C, its first.
+#[test]
+fn hangs_from_the_device_above(rt: HostRuntime) -> Result<(), AllocError> {
+    let grid = network(&rt, rt.alloc(), TIED, 7, 6, 0);
+    let costs = CostForest::build(rt.alloc(), &grid)?;
+    expect_end(&rt, &grid, &costs, DeviceId(0), NodeId(1));
+    expect_end(&rt, &grid, &costs, DeviceId(1), NodeId(2));
+    Ok(())
+}
+
 // The breaker weighs 120, the fuse 40 and the transformers 50 each. The rows are those of S, A, C, D
 // and E.
 const FEEDER_CASES: [(Change, u64, [(u64, u64); 5]); 11] = [

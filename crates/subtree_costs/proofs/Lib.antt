@@ -13,5 +13,6 @@ mod Kept
 mod Changed
 mod Feeding
 mod Reaching
+mod Staying
 mod Worked
 mod Built

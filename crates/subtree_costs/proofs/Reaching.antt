@@ -12,13 +12,9 @@ use Rattle.subtree_costs.specs.Trees.{is_top, depth_in}
 use Rattle.subtree_costs.specs.Costed.{Costed, IsCosted, tree_problem, rows_table}
 use Rattle.subtree_costs.specs.Laws.{AreFedRows, ChainsAreWithinReach}
 use Rattle.subtree_costs.specs.Reach.{IsSimpleWalk, IsReach}
+use Rattle.subtree_costs.specs.Walks.{node_up}
 use Rattle.subtree_costs.proofs.Hung.{parent_is}
 use Rattle.subtree_costs.proofs.Kept.{rooted_sound, kept_forest}
-
--- the node so many devices further up
-abbrev pub up : Network → Table → ℕ → ℕ → ℕ
-up net t n zero = n
-up net t n (suc i) = upper net t (up net t n i)
 
 module _ (g : Parts) (c : Costed) (costed : IsCosted g c) (n : ℕ) (l : n < length g.nodes) where
   abbrev net : Network
@@ -28,7 +24,7 @@ module _ (g : Parts) (c : Costed) (costed : IsCosted g c) (n : ℕ) (l : n < len
   table = rows_table g c.forest c.rows
 
   -- what isn't at the root hangs from the node above
-  hung : (m : ℕ) → m < length g.nodes → 0 < depth_in net c.forest m → HasParent (tree_problem g c).net table m
+  pub hung : (m : ℕ) → m < length g.nodes → 0 < depth_in net c.forest m → HasParent (tree_problem g c).net table m
   hung m lm deep =
       ⊎_elim
       (λ t. absurd (let a = ((kept_forest g c costed).source m lm t).1 in omega arith))
@@ -36,28 +32,28 @@ module _ (g : Parts) (c : Costed) (costed : IsCosted g c) (n : ℕ) (l : n < len
       (cases_Bool (is_top c.forest m))
 
   -- each device leads one up
-  climbs : (i : ℕ) → i ≤ depth_in net c.forest n → (up net table n i < length g.nodes) × (depth_in net c.forest (up net table n i) + i ≡ depth_in net c.forest n)
+  pub climbs : (i : ℕ) → i ≤ depth_in net c.forest n → (node_up net c.forest.parents i n < length g.nodes) × (depth_in net c.forest (node_up net c.forest.parents i n) + i ≡ depth_in net c.forest n)
   climbs zero le = (l, omega arith)
   climbs (suc i) le =
       let a = climbs i (omega arith) in
       let b = a.1 in
-      let h = hung (up net table n i) a.0 (omega arith) in
-      let deeper : depth_in net c.forest (up net table n i) ≡ suc (depth_in net c.forest (up net table n (suc i))) = h.deeper in
-      (up_within (tree_problem g c).net table nothing (rooted_sound g c.forest c.marks c.dark c.live costed.posed).net (kept_forest g c costed).rooted (up net table n i) h, omega arith)
+      let h = hung (node_up net c.forest.parents i n) a.0 (omega arith) in
+      let deeper : depth_in net c.forest (node_up net c.forest.parents i n) ≡ suc (depth_in net c.forest (node_up net c.forest.parents (suc i) n)) = h.deeper in
+      (up_within (tree_problem g c).net table nothing (rooted_sound g c.forest c.marks c.dark c.live costed.posed).net (kept_forest g c costed).rooted (node_up net c.forest.parents i n) h, omega arith)
 
-  walk_up : IsSimpleWalk net (depth_in net c.forest n) (up net table n)
+  walk_up : IsSimpleWalk net (depth_in net c.forest n) (λ i. node_up net c.forest.parents i n)
   walk_up = record {
     joined = λ i li.
         let a = climbs i (omega arith) in
         let b = a.1 in
-        let h = hung (up net table n i) a.0 (omega arith) in (
-          table.parent (up net table n i),
+        let h = hung (node_up net c.forest.parents i n) a.0 (omega arith) in (
+          table.parent (node_up net c.forest.parents i n),
           record {
             within = h.within;
             closed = h.closed;
             uncut = refl;
             ends = ⊎_elim (λ x. inl x) (λ x. inr (x.1, x.0))
-                (parent_ends (tree_problem g c).net table nothing (rooted_sound g c.forest c.marks c.dark c.live costed.posed).net (kept_forest g c costed).rooted (up net table n i) h);
+                (parent_ends (tree_problem g c).net table nothing (rooted_sound g c.forest c.marks c.dark c.live costed.posed).net (kept_forest g c costed).rooted (node_up net c.forest.parents i n) h);
           },
         );
     apart = λ i j li lj same.
@@ -71,7 +67,7 @@ module _ (g : Parts) (c : Costed) (costed : IsCosted g c) (n : ℕ) (l : n < len
   depth_reached fed r reach =
       ⊎_elim
       (λ f. let a = reach.fed f in let b = fed.depth n l f in omega arith)
-      (λ f. reach.longest f (depth_in net c.forest n) (up net table n) refl walk_up)
+      (λ f. reach.longest f (depth_in net c.forest n) (λ i. node_up net c.forest.parents i n) refl walk_up)
       (cases_Bool (is_live net nothing n))
 
 -- nor is the chain of the node from which it hangs, with one more device

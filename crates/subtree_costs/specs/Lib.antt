@@ -5,4 +5,5 @@ pub mod CostedInside
 pub mod Repairs
 pub mod Listing
 pub mod Reach
+pub mod Walks
 pub mod Laws

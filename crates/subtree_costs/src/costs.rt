@@ -63,7 +63,7 @@ fn starting_forest(alloc: Global, grid: &Grid) -> Result<Forest, AllocError>
 }
 
 impl CostForest {
-    ghost use Rattle.std.specs.Prelude.{◌≡◌, ◌≤◌, ◌<◌, ◌+◌, ◌*◌, ◌^◌, ℕ, Some, false, length, replicate, sum, slice_index, slice_index_or, slice_set, IfOk};
+    ghost use Rattle.std.specs.Prelude.{◌≡◌, ◌≤◌, ◌<◌, ◌+◌, ◌*◌, ◌^◌, ℕ, Some, true, false, length, replicate, sum, slice_index, slice_index_or, slice_set, IfOk};
     ghost use Rattle.outage_rules.specs.Network.{IsRadial};
     ghost use Rattle.grid_model.specs.declared.history.Mark.TheVariants.{Nothing};
     ghost use Rattle.grid_model.specs.Parts.{Parts};
@@ -143,6 +143,17 @@ impl CostForest {
         ensures { result.now ≡ self.now.live }
     {
         &self.live
+    }
+
+    /// The end of a closed device that hangs by it from the other one.
+    pub fn lower_end(&self, grid: &Grid, d: DeviceId) -> NodeId
+        requires costed { IsCosted grid.now self.now }
+        requires device { d.0 < length grid.now.devices }
+        requires closed { slice_index_or self.now.forest.closed d.0 false ≡ true }
+        ensures node { result.0 < length grid.now.nodes }
+        ensures hangs { parent_in self.now.forest.parents result.0 ≡ Some d }
+    {
+        lower_end(grid, &self.forest, d)
     }
 
     /// The row of a node, fed or not, in one step: what the part at and below it costs at least where

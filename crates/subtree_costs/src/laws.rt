@@ -1,5 +1,6 @@
 //! What kept costs say.
 ghost use Rattle.subtree_costs.specs.Laws.{RowsAreLeast, TotalIsLeast, FedRowsAreExact, ChainsAreWithinReach};
+ghost use Rattle.subtree_costs.specs.Walks.{ChangesStayOnWalks};
 
 use outage_rules::{
     exact_table_is_reference, least_cost_is_least, live_is_a_walk, row_is_least, tight_passes,
@@ -36,3 +37,9 @@ pub fn chains_are_within_reach()
 {
     fed_rows_are_exact();
 }
+
+/// What changes at places alone, weights of reports and marks over the same trees, changes no row off
+/// the walks from the places up to their roots.
+pub fn changes_stay_on_walks()
+    ensures { ChangesStayOnWalks }
+{}

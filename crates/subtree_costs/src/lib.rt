@@ -10,5 +10,8 @@ mod posed;
 mod rows;
 
 pub use costs::CostForest;
-pub use laws::{chains_are_within_reach, fed_rows_are_exact, rows_are_least, total_is_least};
+pub use laws::{
+    chains_are_within_reach, changes_stay_on_walks, fed_rows_are_exact, rows_are_least,
+    total_is_least,
+};
 pub use rows::{Row, Steps};

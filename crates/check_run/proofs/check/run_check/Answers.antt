@@ -12,7 +12,7 @@ use Rattle.check_run.proofs.VerdictPlaces.{placed_by}
 use Rattle.engine_run.proofs.Ends.{no_error}
 use Rattle.run_rules.specs.Run.{IsSilent}
 use Rattle.run_rules.specs.declared.status.Status.TheVariants.{ReadFault, WriteFault}
-use Rattle.check_run.proofs.CheckEnds.{never_silent, verdict_used, verdict_read, verdict_written, run_done, memory_unread, write_unread, no_wish, stopped_end, report_end, check_part_end, check_done_end}
+use Rattle.check_run.proofs.CheckEnds.{never_silent, verdict_used, verdict_read, verdict_written, error_is, error_of, run_done, memory_unread, write_unread, no_wish, stopped_end, report_end, check_part_end, check_done_end}
 use Rattle.check_run.proofs.check.run_check.Goals as goal
 
 pub returns-in-Err-read_report-clause-shelf : goal.returns-in-Err-read_report-clause-shelf
@@ -20,7 +20,7 @@ returns-in-Err-read_report-clause-shelf g c =
     let first = left_count _ _ _ c.run_engine.ensures.shelf (no_error c.run_engine.result c.in-Ok.ran ReadFault c.in-Ok.is) in
     let is = c.in-Err-read_report.is in
     tells_last _ _ _ _ first
-    (tells_as _ _ (IsErrOf c.read_report.result ReadFault) (c.in-Err-read_report.status ≡ ReadFault) (λ e. cc) (λ e. cc) c.read_report.ensures.shelf)
+    (tells_as _ _ (IsErrOf c.read_report.result ReadFault) (c.in-Err-read_report.status ≡ ReadFault) (error_is _ _ _ is) (error_of _ _ _ is) c.read_report.ensures.shelf)
 
 -- neither read failed
 pub returns-in_default-clause-shelf : goal.returns-in_default-clause-shelf

@@ -3,8 +3,8 @@ use Rattle.std.specs.Prelude.{None}
 use Rattle.field_state.proofs.Starting.{is_new}
 use Rattle.field_state.proofs.field.Field.new.Goals as goal
 
-pub returns : goal.returns
-returns c =
+pub returns-clause-after : goal.returns-clause-after
+returns-clause-after c =
     is_new c.args.grid.now _
     (record {
       sound = c.in_ok-build.ensures.costed.posed.sound;

@@ -9,4 +9,4 @@ perform-requires-clause-allowed g c =
 
 pub returns-clause-at : goal.returns-clause-at
 returns-clause-at g c h at applied =
-    at_after c.args.grid.now h c.args.event c.args.self.now c.perform.new.self at c.perform.ensures c.requires.of_grid applied
+    at_after c.args.grid.now h c.args.event c.args.self.now c.perform.new.self at c.perform.ensures.done c.requires.of_grid applied

@@ -1,11 +1,15 @@
-use Rattle.std.proofs.Common.{◌≡◌, refl, sym, ap, ◌∙◌, subst}
+use Rattle.std.proofs.Common.{◌≡◌, ◌+◌, ◌≤◌, ◌∷◌, refl, sym, ap, ◌∙◌, subst}
 use Rattle.std.specs.Prelude.{Result, Ok}
 use Rattle.grid_model.specs.declared.history.Refusal.{Refusal}
 use Rattle.outage_engine.specs.declared.Applied.{Applied}
-use Rattle.history_rules.specs.Posed.{refusal_of, joined, least_after}
+use Rattle.history_rules.specs.Posed.{problem_after, diagnosis_after, refusal_of, joined, least_after}
+use Rattle.diagnosis.specs.Judgement.{TellsDark, opened_by}
 use Rattle.field_state.specs.Fielded.{Fielded, IsFieldAfter}
 use Rattle.outage_engine.specs.Engined.{Engined, IsEngine, IsEngineAfter, answer_by}
+use Rattle.outage_engine.specs.Work.{AreReachesAfter, event_work}
+use Rattle.outage_engine.proofs.Working.{reaches_are, flips_are, event_takes}
 use Rattle.outage_engine.proofs.AfterEvents.{joins, stays, costs_told}
+use Rattle.outage_engine.proofs.Recorded.{flags_are}
 use Rattle.outage_engine.proofs.engine.Engine.apply.Goals as goal
 
 pub returns-in_err-apply-clause-engine : goal.returns-in_err-apply-clause-engine
@@ -19,6 +23,20 @@ pub judge-requires-clause-sized : goal.judge-requires-clause-sized
 judge-requires-clause-sized g c =
     let old = subst (IsEngineAfter c.requires.engine.0) (sym c.self.view_is) c.requires.engine.1 in
     old.judged.sized
+
+pub judge-requires-clause-flags : goal.judge-requires-clause-flags
+judge-requires-clause-flags g c =
+    let h = c.requires.engine.0 in
+    let old = subst (IsEngineAfter h) (sym c.self.view_is) c.requires.engine.1 in
+    flags_are c.self.inside.grid h c.self.inside.judged c.self.inside.ledger c.ledger_is_kept.ensures old.field.sound old.dark old.opened (record { each = old.ledger_each; kept = old.ledger })
+
+pub judge-requires-clause-settled : goal.judge-requires-clause-settled
+judge-requires-clause-settled g c other =
+    let old = subst (IsEngineAfter c.requires.engine.0) (sym c.self.view_is) c.requires.engine.1 in
+    let f = c.apply.new.self in
+    let change = c.apply.ensures.places c.in_ok-apply.was (sym c.is_switching.ensures ∙ other) in
+    let settled = c.changes_can_be_settled.ensures c.self.inside.grid c.self.inside.field.costs f.costs c.self.inside.judged f.places old.judged change in
+    record { within = c.apply.ensures.places_within c.in_ok-apply.was; disagree = settled.0; open_ones = settled.1 }
 
 pub returns-clause-after : goal.returns-clause-after
 returns-clause-after g c h given =
@@ -59,3 +77,24 @@ returns-clause-answer g c h given =
     (costs_told grid h e (refusal_of grid h e) c.apply.result c.in_ok-apply.field-0 _ _ c.in_ok-apply.was (c.apply.ensures.answer h old.field)
     (c.least_cost-cost_before.ensures ∙ ap (λ x. x.field.costs.total) (sym c.self.view_is) ∙ old.cost)
     (now ∙ ap (λ x. least_after grid (joined x.grid h e)) (sym c.self.view_is)))
+
+pub returns-clause-steps : goal.returns-clause-steps
+returns-clause-steps g c h reach given reaches other =
+    let grid = c.self.inside.grid in
+    let e = c.args.event in
+    let j = c.self.inside.judged in
+    let f = c.apply.new.self in
+    let now = c.judge.new.self.judged in
+    let old = subst (IsEngineAfter h) (sym c.self.view_is) given in
+    let there = subst (λ x. AreReachesAfter x.grid h reach) (sym c.self.view_is) reaches in
+    let all = joins h e (refusal_of grid h e) c.apply.result c.in_ok-apply.field-0 c.in_ok-apply.was (c.apply.ensures.answer h old.field) in
+    let field = subst (λ events. IsFieldAfter grid events f) all (c.apply.ensures.after h old.field) in
+    let next = c.judge.ensures.after h e refl field (record { each = old.ledger_each; kept = old.ledger }) in
+    let dark = subst (λ x. TellsDark (problem_after x (e ∷ h)) now) c.judge.ensures.grid next.dark in
+    let opened = subst (λ x. opened_by now ≡ diagnosis_after x (e ∷ h)) c.judge.ensures.grid next.opened in
+    subst (λ x. c.judge.new.steps ≤ c.args.steps.now + event_work x.grid h e reach) c.self.view_is
+    (event_takes grid h e reach c.self.inside.field.costs.forest f j now c.args.steps.now c.apply.new.steps c.judge.new.steps
+    (c.apply.ensures.places c.in_ok-apply.was other).forest
+    (c.apply.ensures.steps h old.field c.in_ok-apply.was other reach (reaches_are grid h c.self.inside.field reach old.field there))
+    (c.judge.ensures.steps (c.is_switching.ensures ∙ other))
+    (flips_are grid h (e ∷ h) j now old.dark old.opened dark opened))
