@@ -523,6 +523,8 @@ WORDS = [
     [b"trial"], [b"trial", b"0"], [b"trial", b"--", b"0"], [b"trial", b"0", b"--"], [b"trial", b"101"], [b"trial", b"--", b"101"], [b"trial", b"101", b"--"],
     [b"trial", b"1", b"2"], [b"trial", b"01"], [b"trial", b"one"], [b"trial", b""], [b"trial", b"-1"], [b"trial", b"1", b"--bounds"], [b"trial", FROM, b"1"], [b"trial", b"1", TO], [b"Replay", b"net", b"events"], [b"--bounds", b"replay", b"net", b"events"], [b"", b"net", b"events"], [b"-", b"net", b"events"], [b"--", b"replay", b"net", b"events"],
     [b"check", b"net", b"events", b"report", b"--bounds"], [b"check", b"net", b"events", b"report", FROM], [b"check", b"--", b"net", b"events", b"report"],
+    [b"follow"], [b"follow", b"net"], [b"follow", b"--", b"net"], [b"follow", b"net", b"--"], [b"follow", b"-"], [b"follow", b"net", b"-"], [b"follow", b"net", b"events"],
+    [b"follow", b"net", b"--bounds"], [b"follow", FROM, b"net"], [b"follow", b"net", TO], [b"follow", b"--", b"-net"], [b"follow", b"-net"], [b"follow", b"bad"], [b"follow", b"missing"], [b"Follow", b"net"],
     [b"replay", b"missing", b"missing"], [b"replay", b"net", b"missing"], [b"check", b"net", b"events", b"missing"], [b"replay", b"", b"events"], [b"replay", b"net", b""],
     [b"replay", b"bad", b"missing"], [b"check", b"bad", b"missing", b"missing"], [b"check", b"net", b"missing", b"report"], [b"check", b"net", b"events", b"events"],
     [b"replay", b"--", b"-net", b"events"], [b"replay", b"-net", b"events"], [b"replay", b"net", b"--", b"--from"], [b"replay", b"net", b"--", b"--bounds"], [b"check", b"--", b"-net", b"events", b"report"],
@@ -531,7 +533,7 @@ WORDS = [
     [b"check", b"net", b"events", b"--report"], [b"replay", b"net", b"events", b"report"], [b"replay", b"--bounds", b"bad", b"missing"], [b"check", b"bad", b"missing", b"report"],
     [b"help"], [b"--help"], [b"-h"], [b"replay", b"--help"], [b"replay", b"-V"], [b"--version"], [b"replay", b"help", b"net"], [b"check", b"help"],
 ]
-TWICE = [[b"replay", b"-", b"-"], [b"replay", b"--bounds", b"-", b"-"], [b"check", b"-", b"-", b"report"], [b"check", b"-", b"events", b"-"], [b"check", b"net", b"-", b"-"], [b"check", b"-", b"-", b"-"]]
+TWICE = [[b"replay", b"-", b"-"], [b"follow", b"-"], [b"replay", b"--bounds", b"-", b"-"], [b"check", b"-", b"-", b"report"], [b"check", b"-", b"events", b"-"], [b"check", b"net", b"-", b"-"], [b"check", b"-", b"-", b"-"]]
 OPTIONS = [[b"--bounds"], [FROM], [TO], [b"--from", FROM_ALONE], [b"--to", TO_ALONE]]
 WRONG_OPTIONS = [
     [b"--bounds", b"--bounds"], [b"--bounds", FROM, b"--bounds"], [b"--to=1970-01-01T00:00:00Z", b"--from=1970-01-01T00:00:00Z"], [FROM, FROM], [TO, b"--to", TO_ALONE], [b"--bounds=yes"], [b"--bounds="], [b"--from"], [b"--to"], [b"--from="], [b"--to=noon"], [b"--from=2024-02-30T10:00:00Z"],
@@ -625,4 +627,4 @@ def all_cases(count, seed):
     for family, part in ((storm_case, 1), (line_case, 0.4), (network_case, 0.6), (check_case, 0.8), (report_case, 0.5)):
         draw = random.Random(f"{seed} {family.__name__}")
         cases += [family(draw) for _ in range(round(count * part))]
-    return cases + word_cases(random.Random(f"{seed} words"), max(150, round(count / 2))) + edge_cases()
+    return cases + word_cases(random.Random(f"{seed} words"), max(170, round(count / 2))) + edge_cases()

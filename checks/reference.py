@@ -26,8 +26,8 @@ ROW_FIELDS = {b"source": 2, b"device": 7, b"meter": 4, b"set": 3}
 EVENT_FIELDS = {b"call": 3, b"gasp": 3, b"ping": 4, b"powerup": 3, b"confirm": 4, b"restore": 3, b"open": 3, b"close": 3, b"clock": 2}
 LAST_FIELDS = {b"ping": (b"up", b"down"), b"confirm": (b"open", b"ok", b"clear")}
 OF_METERS = (b"call", b"gasp", b"ping", b"powerup")
-PLACES = {b"replay": 2, b"check": 3, b"trial": 1}
-USAGE = "usage: replay NET EVENTS [--bounds] [--from T] [--to T], check NET EVENTS REPORT, trial N"
+PLACES = {b"replay": 2, b"follow": 1, b"check": 3, b"trial": 1}
+USAGE = "usage: replay NET EVENTS [--bounds] [--from T] [--to T], follow NET, check NET EVENTS REPORT, trial N"
 MOST_LINE = 512
 MOST_NODES, MOST_DEVICES, MOST_METERS = 200_000, 400_000, 500_000
 MOST_COST, MOST_DEPTH = 1_000_000_000_000_000, 1_000_000
@@ -714,6 +714,9 @@ def read_words(words):
         raise End(2, USAGE)
     if command == b"trial" and read_decimal(places[0], 1, 100) is None:
         raise End(2, USAGE)
+    if command == b"follow":
+        # the replay of events from standard input
+        places = places + [b"-"]
     return command, places, b"--bounds" in options, start, until
 
 

@@ -9,3 +9,5 @@ pub mod Commas
 pub mod Lookups
 pub mod PrintedLines
 pub mod Written
+pub mod SpelledLines
+pub mod Spelled

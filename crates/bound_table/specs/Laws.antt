@@ -23,3 +23,15 @@ WrittenIsRead = (g : Parts) (t : Table) (before : List (List ℕ)) → IsSoundPa
 -- bounds that are read ascend, and are of the network and within the ranges of numbers
 abbrev pub ReadIsOfNetwork : Type 0
 ReadIsOfNetwork = (g : Parts) (t : Table) (report : List ℕ) → report_reading g report ≡ IsRead t → IsTableOf g t
+
+-- bytes that are lines that may stand before the bounds part, and then this part
+abbrev pub IsBehindLines : List ℕ → List ℕ → Type 0
+IsBehindLines report part = (before : List (List ℕ)) × (list_all is_line_before before ≡ true) × (report ≡ ended before ++ part)
+
+-- a report from which bounds are read is lines before the bounds part, and then what is printed of these bounds
+abbrev pub ReportHasOneSpelling : Type 0
+ReportHasOneSpelling = (g : Parts) (t : Table) (report : List ℕ) → report_reading g report ≡ IsRead t → IsBehindLines report (bounds_text g t)
+
+-- a bounds part from which bounds are read is what is printed of these bounds
+abbrev pub BoundsHaveOneSpelling : Type 0
+BoundsHaveOneSpelling = (g : Parts) (t : Table) (part : List ℕ) → begins_bounds part ≡ true → report_reading g part ≡ IsRead t → part ≡ bounds_text g t

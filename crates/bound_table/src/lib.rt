@@ -11,7 +11,7 @@ mod words;
 mod write;
 
 pub use bounds::{BoundFault, BoundRow, BoundRule, Bounds};
-pub use laws::{read_is_of_network, written_is_read};
+pub use laws::{bounds_have_one_spelling, read_is_of_network, written_is_read};
 pub use read::read_bounds;
 pub use words::{ReportWord, text_of};
 pub use write::put_bounds;

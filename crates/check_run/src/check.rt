@@ -4,8 +4,8 @@ ghost use Rattle.bound_table.specs.Sound.{IsTableOf};
 ghost use Rattle.command_words.specs.Forms.{Check};
 ghost use Rattle.command_words.specs.Seen.{places_view};
 ghost use Rattle.run_rules.specs.Faults.{TellsFaults};
-ghost use Rattle.run_rules.specs.Run.{IsSilent};
-ghost use Rattle.engine_run.specs.Ended.{IsEnd};
+ghost use Rattle.run_rules.specs.Run.{run_of, IsSilent};
+ghost use Rattle.run_rules.specs.Ends.{IsEnd};
 ghost use Rattle.check_run.specs.Reported.{DidSayBounds, IsReportStop};
 
 use crate::verdicts::{status_by, text_of, verdict_by};
@@ -14,6 +14,7 @@ use command_words::Places;
 use engine_run::{Nowhere, run_engine};
 use grid_model::Grid;
 use outage_ports::{Shelf, Sink, put_all};
+use replay_laws::bounds_are_shown;
 use run_rules::{Status, Which};
 use std::alloc::Global;
 use whole_file::{Stop, read_whole};
@@ -30,10 +31,13 @@ fn read_report<S: Shelf>(
 ) -> Result<Bounds, Status>
     requires allowed { S.allows name.now }
     ensures files { S.files shelf.new ≡ S.files shelf.old }
-    ensures bounds { IfOk result (DidSayBounds (S.files shelf.old) (S.left shelf.new) name.now grid.now) }
+    ensures bounds { IfOk result (DidSayBounds (S.files shelf.old) (S.left shelf.new)
+        name.now grid.now) }
     ensures of_network { IfOk result (IsTableOf grid.now) }
-    ensures stopped { IfErr result (IsReportStop (S.files shelf.old) name.now grid.now) }
-    ensures shelf { TellsFaults (S.faults shelf.old) (S.faults shelf.new) (IsErrOf result Status.ReadFault) }
+    ensures stopped { IfErr result (IsReportStop (S.files shelf.old) (S.left shelf.old)
+        (S.left shelf.new) name.now grid.now) }
+    ensures shelf { TellsFaults (S.faults shelf.old) (S.faults shelf.new)
+        (IsErrOf result Status.ReadFault) }
 {
     let text = match read_whole(alloc, shelf, name, MOST_REPORT) {
         Ok(text) => text,
@@ -62,12 +66,17 @@ pub fn run_check<S: Shelf, K: Sink>(
     requires events { S.allows places.events.now }
     requires report { S.allows report.now }
     ensures no_usage { result ≡ Status.Usage → ⊥ }
-    ensures shelf { TellsFaults (S.faults shelf.old) (S.faults shelf.new) (result ≡ Status.ReadFault) }
+    ensures shelf { TellsFaults (S.faults shelf.old) (S.faults shelf.new)
+        (result ≡ Status.ReadFault) }
     ensures out { TellsFaults (K.faults out.old) (K.faults out.new) (result ≡ Status.WriteFault) }
-    ensures idle { IsSilent (Some (Check (places_view places.entry) report.now)) result → out.new ≡ out.old }
-    ensures ended { IsEnd (S.files shelf.old) (S.left shelf.new) (K.written out.old) (K.written out.new) (Some (Check (places_view places.entry) report.now)) result }
+    ensures idle { IsSilent (Some (Check (places_view places.entry) report.now)) result
+        → out.new ≡ out.old }
+    ensures ended { IsEnd (run_of (S.files shelf.old) (S.left shelf.old) (S.left shelf.new)
+        (K.written out.old) (K.written out.new)
+        (Some (Check (places_view places.entry) report.now))) result }
 {
-    let ran = match run_engine(alloc, places, shelf, &mut Nowhere) {
+    bounds_are_shown();
+    let ran = match run_engine(alloc, places, false, shelf, &mut Nowhere) {
         Ok(ran) => ran,
         Err(status) => return status,
     };

@@ -8,10 +8,10 @@ use Rattle.clap.specs.Faults.{check_fault, defaults_fault}
 use Rattle.clap.specs.declared.error.kind.ErrorKind.TheVariants as kind
 use Rattle.clap.specs.declared.builder.value_parser.Reading.TheVariants.{AsWritten}
 use Rattle.clap.specs.declared.parser.matches.ValueSource.TheVariants.{CommandLine}
-use Rattle.command_words.specs.Forms.{Part, Place, parts_of}
-use Rattle.command_words.specs.Given.{check_after}
+use Rattle.command_words.specs.Forms.{Part, Place, check_by, parts_of}
+use Rattle.command_words.specs.Given.{places_after}
 use Rattle.command_words.specs.Matched.{Read}
-use Rattle.command_words.proofs.Taking.{check_place, check_past, check_option}
+use Rattle.command_words.proofs.Taking.{place_taken, check_past, option_refused}
 use Rattle.command_words.proofs.Outcome.{outcome, left_of, goes_on, ends, last, end_fault}
 use Rattle.command_words.proofs.RowsFound.{row_at, value_row, first_place, second_place, found_behind, other_behind, used_first}
 use Rattle.command_words.proofs.Looks.{AllSpelled}
@@ -50,11 +50,11 @@ abbrev Fits : List Row → Pending → List Text → Type 0
 Fits rows p ps = (owed rows p ≡ []) × Seen (kept rows p) ps × Few ps
 
 abbrev form : Read → Form
-form read = record { shape = check_shape; read = read; position = position; after = check_after; Fits = Fits }
+form read = record { shape = check_shape; read = read; position = position; after = places_after check_by; Fits = Fits }
 
 -- what is read of the rows of a command is the command
 abbrev pub Reads : Read → Type 0
-Reads read = (rows : List Row) (a e r : Text) → Seen rows (a ∷ e ∷ r ∷ []) → read rows ≡ check_after (a ∷ e ∷ r ∷ []) []
+Reads read = (rows : List Row) (a e r : Text) → Seen rows (a ∷ e ∷ r ∷ []) → read rows ≡ places_after check_by (a ∷ e ∷ r ∷ []) []
 
 -- ---- places
 
@@ -116,19 +116,19 @@ place_step read t w words parts h next rows p [] fits =
     (turn.fault_net t rows p w h ∙ fits.0) (turn.after_net t rows p w h)
     ∙ next (kept rows p) (Some (codes "net", w ∷ [])) (w ∷ [])
     (net_owed (kept rows p) w fits.1.net, subst (λ (l : List Row). Seen l (w ∷ [])) (sym (net_kept (kept rows p) w fits.1.net)) (seen_net (kept rows p) w fits.1), tt)
-    ∙ sym (check_place ([]) w parts)
+    ∙ sym (place_taken check_by ([]) w parts)
 place_step read t w words parts h next rows p (a ∷ []) fits =
     goes_on check_shape read (at rows p idle 2 t) (at (kept rows p) (Some (codes "events", w ∷ [])) idle 3 t) w words
     (turn.fault_events t rows p w h ∙ fits.0) (turn.after_events t rows p w h)
     ∙ next (kept rows p) (Some (codes "events", w ∷ [])) (a ∷ w ∷ [])
     (events_owed (kept rows p) w fits.1.events, subst (λ (l : List Row). Seen l (a ∷ w ∷ [])) (sym (events_kept (kept rows p) w fits.1.events)) (seen_events (kept rows p) a w fits.1), tt)
-    ∙ sym (check_place (a ∷ []) w parts)
+    ∙ sym (place_taken check_by (a ∷ []) w parts)
 place_step read t w words parts h next rows p (a ∷ e ∷ []) fits =
     goes_on check_shape read (at rows p idle 3 t) (at (kept rows p) (Some (codes "report", w ∷ [])) idle 4 t) w words
     (turn.fault_report t rows p w h ∙ fits.0) (turn.after_report t rows p w h)
     ∙ next (kept rows p) (Some (codes "report", w ∷ [])) (a ∷ e ∷ w ∷ [])
     (report_owed (kept rows p) w fits.1.report, subst (λ (l : List Row). Seen l (a ∷ e ∷ w ∷ [])) (sym (report_kept (kept rows p) w fits.1.report)) (seen_report (kept rows p) a e w fits.1), tt)
-    ∙ sym (check_place (a ∷ e ∷ []) w parts)
+    ∙ sym (place_taken check_by (a ∷ e ∷ []) w parts)
 place_step read t w words parts h next rows p (a ∷ e ∷ c ∷ []) fits =
     ends check_shape read (at rows p idle 4 t) w words kind.UnknownArgument [] (turn.fault_fourth t rows p w h)
     ∙ sym (check_past (a ∷ e ∷ c ∷ []) w parts refl)
@@ -181,8 +181,8 @@ last_is read t rows p n l fine is =
     ∙ ap (λ (r : List Row). outcome (check_fault check_shape r false) (read r)) (finished_is rows p)
     ∙ ap (λ (k : Kinds). outcome k (read (kept rows p))) is
 
-short_of_places : (ps : List Text) → Few ps → (position ps == 4) ≡ false → check_after ps [] ≡ None
-unfolding check_after
+short_of_places : (ps : List Text) → Few ps → (position ps == 4) ≡ false → places_after check_by ps [] ≡ None
+unfolding places_after
 short_of_places [] few e = refl
 short_of_places (a ∷ []) few e = refl
 short_of_places (a ∷ b ∷ []) few e = refl
@@ -217,7 +217,7 @@ only_places : (read : Read) → Reads read → OnlyPlaces (form read)
 only_places read reads = record {
   place_step = place_step read;
   end_step = end_step read reads;
-  no_option = check_option;
+  no_option = option_refused check_by;
   fault_dashes = turn.fault_dashes;
   after_dashes = turn.after_dashes;
   fault_long = turn.fault_long;
@@ -233,7 +233,7 @@ unfolding kept
 none_kept = refl
 
 pub check_follows : (read : Read) → Reads read → (words : List Text) → AllSpelled words
-    → left_of check_shape read (walk_from nothing_held) words ≡ check_after [] (parts_of words)
+    → left_of check_shape read (walk_from nothing_held) words ≡ places_after check_by [] (parts_of words)
 check_follows read reads words all =
     places_follow (form read) (only_places read reads) words all [] None []
     (none_owed, subst (λ (l : List Row). Seen l []) (sym none_kept) (record { net = refl; events = refl; report = refl }), tt)

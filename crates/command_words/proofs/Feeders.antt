@@ -6,7 +6,7 @@ use Rattle.std.specs.Str.{bytes_eq}
 use Rattle.std.proofs.lemmas.Bool.{leb-true}
 use Rattle.event_rules.specs.Decimals.{is_decimal, value_of}
 use Rattle.command_words.specs.declared.words.Wish.{Wish}
-use Rattle.command_words.specs.Forms.{Command, Trial, HasFeeders, Part, Places, check_by, check_of, command_by, command_of, is_place, parts_of, place_in, replay_by, replay_of, trial_by, trial_of, two_places, wish_of}
+use Rattle.command_words.specs.Forms.{Command, Trial, HasFeeders, Part, Places, check_by, check_of, command_by, command_of, follow_of, is_place, one_by, parts_of, place_in, replay_by, replay_of, trial_of, trial_over, follow_on, two_places, wish_of}
 
 abbrev Fits : Option Command → Type 0
 Fits None = Unit {0}
@@ -34,17 +34,25 @@ within true true false n p q = tt
 within true false m n p q = tt
 within false l m n p q = tt
 
-trial_fits : (places : List (List ℕ)) → Fits (trial_by places)
+trial_fits : (places : List (List ℕ)) → Fits (one_by trial_over places)
 trial_fits [] = tt
 trial_fits (word ∷ []) = within (is_decimal word) (nat_le 1 (value_of word)) (nat_le (value_of word) 100) (value_of word) refl refl
 trial_fits (word ∷ more ∷ rest) = tt
 
+follow_fits : (places : List (List ℕ)) → Fits (one_by follow_on places)
+follow_fits [] = tt
+follow_fits (word ∷ []) = tt
+follow_fits (word ∷ more ∷ rest) = tt
+
 by_word : (word : List ℕ) (parts : List Part) → Fits (command_by word parts)
 by_word word parts =
-    let check = either (list_all is_place parts) (check_by (filter_map place_in parts)) None (check_fits (filter_map place_in parts)) tt in
-    let trial = either (list_all is_place parts) (trial_by (filter_map place_in parts)) None (trial_fits (filter_map place_in parts)) tt in
-    either (bytes_eq word (codes "replay")) (replay_of parts) _ (replay_fits (two_places (filter_map place_in parts)) (wish_of parts))
-    (either (bytes_eq word (codes "check")) (check_of parts) _ check (either (bytes_eq word (codes "trial")) (trial_of parts) None trial tt))
+    let places = filter_map place_in parts in
+    let check = either (list_all is_place parts) (check_by places) None (check_fits places) tt in
+    let trial = either (list_all is_place parts) (one_by trial_over places) None (trial_fits places) tt in
+    let follow = either (list_all is_place parts) (one_by follow_on places) None (follow_fits places) tt in
+    either (bytes_eq word (codes "replay")) (replay_of parts) _ (replay_fits (two_places places) (wish_of parts))
+    (either (bytes_eq word (codes "check")) (check_of parts) _ check
+    (either (bytes_eq word (codes "trial")) (trial_of parts) _ trial (either (bytes_eq word (codes "follow")) (follow_of parts) None follow tt)))
 
 fits : (words : List (List ℕ)) → Fits (command_of words)
 unfolding command_of

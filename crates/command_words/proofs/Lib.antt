@@ -13,6 +13,6 @@ pub mod ReplayWalk
 pub mod RowsFound
 pub mod Spelled
 pub mod Taking
-pub mod TrialTurns
-pub mod TrialWalk
+pub mod OnePlaceTurns
+pub mod OnePlaceWalk
 pub mod Turns

@@ -5,9 +5,9 @@ use Rattle.std.specs.Str.{bytes_eq}
 use Rattle.std.proofs.lemmas.Slice.Eq.{bytes_eq-Decides}
 use Rattle.clap.specs.Walk.{Row, Text, first_of}
 use Rattle.command_words.specs.declared.words.Wish.{Wish}
-use Rattle.command_words.specs.Forms.{Places, replay_by, trial_over, wish_by}
+use Rattle.command_words.specs.Forms.{Places, follow_on, replay_by, trial_over, wish_by}
 use Rattle.command_words.specs.Given.{second_in}
-use Rattle.command_words.specs.Matched.{check_in, check_with, flag_by, flag_in, places_by, replay_in, trial_in}
+use Rattle.command_words.specs.Matched.{check_in, check_with, flag_by, flag_in, follow_in, places_by, replay_in, trial_in}
 
 -- a name and rows that are told one by one
 pub told_together : {X : Type 0} (name : X → Text) (rows : X → List Row) (o : Option X) (n : Text) (r : List Row)
@@ -35,6 +35,10 @@ check_told rows places net events report n e r p =
 pub trial_told : (rows : List Row) (number : Option Text) → number ≡ first_of (codes "n") rows → option_and_then trial_over number ≡ trial_in rows
 unfolding trial_in
 trial_told rows number e = ap (λ (x : Option Text). option_and_then trial_over x) e
+
+pub follow_told : (rows : List Row) (net : Option Text) → net ≡ first_of (codes "net") rows → option_and_then follow_on net ≡ follow_in rows
+unfolding follow_in
+follow_told rows net e = ap (λ (x : Option Text). option_and_then follow_on x) e
 
 pub wish_told : (rows : List Row) (flag : Option Bool) (from until : Option Text) → flag ≡ flag_in rows
     → from ≡ first_of (codes "from") rows → until ≡ first_of (codes "to") rows

@@ -7,17 +7,17 @@ use Rattle.clap.specs.Walk.{Row, Text, first_of, row_text}
 use Rattle.clap.specs.Simple.{subcommand_of}
 use Rattle.clap.specs.Faults.{fault_of}
 use Rattle.command_words.specs.Told.{outage_app}
-use Rattle.command_words.specs.Forms.{Command, Check, Places, command_of, replay_by, trial_over, wish_by}
-use Rattle.command_words.specs.Given.{check_after, second_in, trial_after}
-use Rattle.command_words.specs.Matched.{IsKnown, Read, check_in, check_with, command_by_name, flag_by, flag_in, places_by, replay_in, trial_in}
+use Rattle.command_words.specs.Forms.{Command, Check, Places, check_by, command_of, follow_on, one_by, replay_by, trial_over, wish_by}
+use Rattle.command_words.specs.Given.{places_after, second_in}
+use Rattle.command_words.specs.Matched.{IsKnown, Read, Reads, check_in, check_with, command_by_name, flag_by, flag_in, follow_in, own_reads, places_by, replay_in, trial_in}
 use Rattle.command_words.proofs.Taking.{replay_at_end}
 use Rattle.command_words.proofs.RowsFound.{row_at, value_row, flag_row}
 use Rattle.command_words.proofs.Outcome.{outcome}
 use Rattle.command_words.proofs.Looks.{AllSpelled}
 use Rattle.command_words.proofs.ReplaySteps as replay
 use Rattle.command_words.proofs.CheckWalk as check
-use Rattle.command_words.proofs.TrialWalk as trial
-use Rattle.command_words.proofs.AppWords.{words_follow}
+use Rattle.command_words.proofs.OnePlaceWalk as one
+use Rattle.command_words.proofs.AppWords.{trial_place, follow_place, words_follow}
 
 first_is : (id : Text) (rows : List Row) (o : Option Row) → row_at id rows ≡ o → first_of id rows ≡ option_and_then (λ (r : Row). slice_get r.values 0) o
 first_is id rows o e = ap (λ (o : Option Row). option_and_then (λ (r : Row). slice_get r.values 0) o) e
@@ -41,15 +41,19 @@ replay_reads rows a e b f u c =
     ∙ sym (replay_at_end a e b f u)
 
 pub check_reads : check.Reads check_in
-unfolding check_in check_after
+unfolding check_in places_after
 check_reads rows a e r s =
     ap (λ (x : Option Text). check_with (places_by x (first_of (codes "events") rows)) (first_of (codes "report") rows)) (value_is (codes "net") rows (Some a) s.net)
     ∙ ap (λ (x : Option Text). check_with (places_by (Some a) x) (first_of (codes "report") rows)) (value_is (codes "events") rows (Some e) s.events)
     ∙ ap (λ (x : Option Text). check_with (places_by (Some a) (Some e)) x) (value_is (codes "report") rows (Some r) s.report)
 
-pub trial_reads : trial.Reads trial_in
-unfolding trial_in trial_after
+pub trial_reads : one.Reads trial_place trial_in
+unfolding trial_in places_after
 trial_reads rows a s = ap (λ (x : Option Text). option_and_then trial_over x) (value_is (codes "n") rows (Some a) s)
+
+pub follow_reads : one.Reads follow_place follow_in
+unfolding follow_in places_after
+follow_reads rows a s = ap (λ (x : Option Text). option_and_then follow_on x) (value_is (codes "net") rows (Some a) s)
 
 -- ---- the flag is known
 
@@ -87,25 +91,32 @@ known_if_same rows e = go (flag_in rows) refl
         let none : None ≡ Some (Check (record { net = []; events = [] }) []) = sym (unknown_flag rows is) ∙ e ∙ ap (λ (x : Option Bool). by_flag x rows) is in
         cc
 
-known_at : (o : Option (Text × List Row)) → command_by_name replay_in check_in trial_in o ≡ command_by_name lax check_in trial_in o → IsKnown o
+-- the program's reads, with one of a replay that tells a flag that isn't known
+abbrev lax_ones : Reads
+lax_ones = record own_reads { replay = lax }
+
+known_at : (o : Option (Text × List Row)) → command_by_name own_reads o ≡ command_by_name lax_ones o → IsKnown o
 known_at None e = tt
 known_at (Some p) e = λ is.
-    let other = if bytes_eq p.0 (codes "check") then check_in p.1 else trial_in p.1 in
+    let other = if bytes_eq p.0 (codes "check") then check_in p.1 else (if bytes_eq p.0 (codes "trial") then trial_in p.1 else follow_in p.1) in
     known_if_same p.1 (sym (ap (λ (b : Bool). if b then replay_in p.1 else other) is) ∙ e ∙ ap (λ (b : Bool). if b then lax p.1 else other) is)
+
+own_follow : (words : List Text) → AllSpelled words → outcome (fault_of outage_app words) (command_by_name own_reads (subcommand_of outage_app words)) ≡ command_of words
+own_follow words all = words_follow own_reads (record { replay = replay_reads; check = check_reads; trial = trial_reads; follow = follow_reads }) words all
+
+lax_follow : (words : List Text) → AllSpelled words → outcome (fault_of outage_app words) (command_by_name lax_ones (subcommand_of outage_app words)) ≡ command_of words
+lax_follow words all = words_follow lax_ones (record { replay = lax_reads; check = check_reads; trial = trial_reads; follow = follow_reads }) words all
 
 pub known : (words : List Text) → AllSpelled words → fault_of outage_app words ≡ [] → IsKnown (subcommand_of outage_app words)
 known words all fine =
-    let one = words_follow replay_in check_in trial_in replay_reads check_reads trial_reads words all in
-    let two = words_follow lax check_in trial_in lax_reads check_reads trial_reads words all in
     known_at (subcommand_of outage_app words)
-    (sym (ap (λ (k : Kinds). outcome k (command_by_name replay_in check_in trial_in (subcommand_of outage_app words))) fine) ∙ one ∙ sym two
-    ∙ ap (λ (k : Kinds). outcome k (command_by_name lax check_in trial_in (subcommand_of outage_app words))) fine)
+    (sym (ap (λ (k : Kinds). outcome k (command_by_name own_reads (subcommand_of outage_app words))) fine) ∙ own_follow words all ∙ sym (lax_follow words all)
+    ∙ ap (λ (k : Kinds). outcome k (command_by_name lax_ones (subcommand_of outage_app words))) fine)
 
 -- the command of words that are parsed
-pub command_parsed : (words : List Text) → AllSpelled words → fault_of outage_app words ≡ [] → command_by_name replay_in check_in trial_in (subcommand_of outage_app words) ≡ command_of words
+pub command_parsed : (words : List Text) → AllSpelled words → fault_of outage_app words ≡ [] → command_by_name own_reads (subcommand_of outage_app words) ≡ command_of words
 command_parsed words all fine =
-    sym (ap (λ (k : Kinds). outcome k (command_by_name replay_in check_in trial_in (subcommand_of outage_app words))) fine)
-    ∙ words_follow replay_in check_in trial_in replay_reads check_reads trial_reads words all
+    sym (ap (λ (k : Kinds). outcome k (command_by_name own_reads (subcommand_of outage_app words))) fine) ∙ own_follow words all
 
 outcome_of_fault : (l : Kinds) (c : Option Command) → (l ≡ [] → ⊥) → outcome l c ≡ None
 outcome_of_fault [] c h = absurd (h refl)
@@ -114,5 +125,4 @@ outcome_of_fault (k ∷ ks) c h = refl
 -- words that are refused have none
 pub command_refused : (words : List Text) → AllSpelled words → (fault_of outage_app words ≡ [] → ⊥) → command_of words ≡ None
 command_refused words all bad =
-    sym (words_follow replay_in check_in trial_in replay_reads check_reads trial_reads words all)
-    ∙ outcome_of_fault (fault_of outage_app words) (command_by_name replay_in check_in trial_in (subcommand_of outage_app words)) bad
+    sym (own_follow words all) ∙ outcome_of_fault (fault_of outage_app words) (command_by_name own_reads (subcommand_of outage_app words)) bad

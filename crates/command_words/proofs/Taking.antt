@@ -6,8 +6,8 @@ use Rattle.std.specs.Option.{option_to_list}
 use Rattle.std.specs.Str.{bytes_eq}
 use Rattle.event_rules.specs.Stamps.{stamp_of}
 use Rattle.command_words.specs.declared.words.Wish.{Wish}
-use Rattle.command_words.specs.Forms.{Command, Places, Part, Place, Bounds, From, To, Stray, parts_of, part_of, part_with, takes_next, place_in, from_in, to_in, flag_in, is_stray, is_place, once_at_most, second_given, wish_by, two_places, replay_by, check_by, trial_by}
-use Rattle.command_words.specs.Given.{Given, flags_given, wish_after, replay_after, check_after, trial_after, second_in}
+use Rattle.command_words.specs.Forms.{Command, Places, Part, Place, Bounds, From, To, Stray, parts_of, part_of, part_with, takes_next, place_in, from_in, to_in, flag_in, is_stray, is_place, once_at_most, second_given, wish_by, two_places, replay_by, check_by, one_by}
+use Rattle.command_words.specs.Given.{Given, flags_given, wish_after, replay_after, places_after, second_in}
 
 abbrev pub given : List (List ℕ) → Bool → Option (List ℕ) → Option (List ℕ) → Given
 given places with_bounds from until = record { places = places; with_bounds = with_bounds; from = from; until = until }
@@ -101,11 +101,25 @@ pub replay_at_end : (net events : List ℕ) (b : Bool) (f u : Option (List ℕ))
 unfolding replay_after
 replay_at_end net events b f u = ap (replay_by (Some (record { net = net; events = events }))) (wish_at_end (net ∷ events ∷ []) b f u)
 
--- ---- a check
+-- ---- places without options
 
-pub check_place : (ps : List (List ℕ)) (w : List ℕ) (rest : List Part) → check_after ps (Place w ∷ rest) ≡ check_after (ps ++ w ∷ []) rest
-unfolding check_after
-check_place ps w rest = ap (λ (l : List (List ℕ)). if list_all is_place rest then check_by l else None) (sym (append_assoc ps (w ∷ []) (filter_map place_in rest)))
+pub place_taken : (by : List (List ℕ) → Option Command) (ps : List (List ℕ)) (w : List ℕ) (rest : List Part) → places_after by ps (Place w ∷ rest) ≡ places_after by (ps ++ w ∷ []) rest
+unfolding places_after
+place_taken by ps w rest = ap (λ (l : List (List ℕ)). if list_all is_place rest then by l else None) (sym (append_assoc ps (w ∷ []) (filter_map place_in rest)))
+
+pub option_refused : (by : List (List ℕ) → Option Command) (ps : List (List ℕ)) (part : Part) (rest : List Part) → is_place part ≡ false → places_after by ps (part ∷ rest) ≡ None
+unfolding places_after
+option_refused by ps (Place w) rest e = absurd (true≢false e)
+option_refused by ps Bounds rest e = refl
+option_refused by ps (From v) rest e = refl
+option_refused by ps (To v) rest e = refl
+option_refused by ps Stray rest e = refl
+
+none_anyway : (b : Bool) (x : Option Command) → x ≡ None → (if b then x else None) ≡ None
+none_anyway true x e = e
+none_anyway false x e = refl
+
+-- ---- a check
 
 not_three : (ps : List (List ℕ)) (w : List ℕ) (more : List (List ℕ)) → length ps ≡ 3 → check_by (ps ++ w ∷ more) ≡ None
 not_three [] w more e = absurd (omega arith)
@@ -114,43 +128,19 @@ not_three (a ∷ b ∷ []) w more e = absurd (omega arith)
 not_three (a ∷ b ∷ c ∷ []) w more e = refl
 not_three (a ∷ b ∷ c ∷ d ∷ ps) w more e = refl
 
-none_anyway : (b : Bool) (x : Option Command) → x ≡ None → (if b then x else None) ≡ None
-none_anyway true x e = e
-none_anyway false x e = refl
-
-pub check_past : (ps : List (List ℕ)) (w : List ℕ) (rest : List Part) → length ps ≡ 3 → check_after ps (Place w ∷ rest) ≡ None
-unfolding check_after
+pub check_past : (ps : List (List ℕ)) (w : List ℕ) (rest : List Part) → length ps ≡ 3 → places_after check_by ps (Place w ∷ rest) ≡ None
+unfolding places_after
 check_past ps w rest e = none_anyway (list_all is_place rest) _ (not_three ps w (filter_map place_in rest) e)
 
-pub check_option : (ps : List (List ℕ)) (part : Part) (rest : List Part) → is_place part ≡ false → check_after ps (part ∷ rest) ≡ None
-unfolding check_after
-check_option ps (Place w) rest e = absurd (true≢false e)
-check_option ps Bounds rest e = refl
-check_option ps (From v) rest e = refl
-check_option ps (To v) rest e = refl
-check_option ps Stray rest e = refl
+-- ---- a command of one place
 
--- ---- a trial
+pub one_past : (take : List ℕ → Option Command) (a w : List ℕ) (rest : List Part) → places_after (one_by take) (a ∷ []) (Place w ∷ rest) ≡ None
+unfolding places_after
+one_past take a w rest = none_anyway (list_all is_place rest) _ refl
 
-pub trial_place : (ps : List (List ℕ)) (w : List ℕ) (rest : List Part) → trial_after ps (Place w ∷ rest) ≡ trial_after (ps ++ w ∷ []) rest
-unfolding trial_after
-trial_place ps w rest = ap (λ (l : List (List ℕ)). if list_all is_place rest then trial_by l else None) (sym (append_assoc ps (w ∷ []) (filter_map place_in rest)))
-
-pub trial_past : (a w : List ℕ) (rest : List Part) → trial_after (a ∷ []) (Place w ∷ rest) ≡ None
-unfolding trial_after
-trial_past a w rest = none_anyway (list_all is_place rest) _ refl
-
-pub trial_option : (ps : List (List ℕ)) (part : Part) (rest : List Part) → is_place part ≡ false → trial_after ps (part ∷ rest) ≡ None
-unfolding trial_after
-trial_option ps (Place w) rest e = absurd (true≢false e)
-trial_option ps Bounds rest e = refl
-trial_option ps (From v) rest e = refl
-trial_option ps (To v) rest e = refl
-trial_option ps Stray rest e = refl
-
-pub no_number : trial_after [] [] ≡ None
-unfolding trial_after
-no_number = refl
+pub none_taken : (take : List ℕ → Option Command) → places_after (one_by take) [] [] ≡ None
+unfolding places_after
+none_taken take = refl
 
 -- ---- the parts of words
 

@@ -14,7 +14,7 @@ pub record Places : Type 0 where
   pub net : List ℕ
   pub events : List ℕ
 
--- what the words ask for: a replay, the check of a report, or a trial over so many feeders
+-- what the words ask for: a replay, also of events that are followed as they come; the check of a report; or a trial over so many feeders
 pub data Command : Type 0 where
   Replay : (places : Places) (wish : Wish) → Command
   Check : (places : Places) (report : List ℕ) → Command
@@ -108,9 +108,10 @@ runs_on _ _ = true
 abbrev pub period_given : Option ℕ → Option ℕ → Period
 period_given from until = record { from = as_stamp (or_first from); until = option_map as_stamp until }
 
+-- the wish of a replay: the entries of a line may wait for those of others
 abbrev pub wish_with : Bool → Option ℕ → Option ℕ → Option Wish
 wish_with with_bounds from until =
-    if runs_on from until then Some (record { with_bounds = with_bounds; period = period_given from until }) else None
+    if runs_on from until then Some (record { with_bounds = with_bounds; period = period_given from until; at_once = false }) else None
 
 abbrev pub wish_by : Option Bool → Option (Option ℕ) → Option (Option ℕ) → Option Wish
 wish_by (Some with_bounds) (Some from) (Some until) = wish_with with_bounds from until
@@ -138,26 +139,44 @@ abbrev pub check_by : List (List ℕ) → Option Command
 check_by (net ∷ events ∷ report ∷ []) = Some (Check (record { net = net; events = events }) report)
 check_by _ = None
 
+-- what places come to, without options
+abbrev pub places_of : (List (List ℕ) → Option Command) → List Part → Option Command
+places_of by parts = if list_all is_place parts then by (filter_map place_in parts) else None
+
 -- check NET EVENTS REPORT, without options
 abbrev pub check_of : List Part → Option Command
-check_of parts = if list_all is_place parts then check_by (filter_map place_in parts) else None
+check_of parts = places_of check_by parts
+
+-- what a place comes to, where it is the only one
+abbrev pub one_by : (List ℕ → Option Command) → List (List ℕ) → Option Command
+one_by take (word ∷ []) = take word
+one_by take _ = None
 
 -- a trial over as many feeders as a word writes, from 1 to 100
 abbrev pub trial_over : List ℕ → Option Command
 trial_over word = option_map Trial (decimal_within 1 100 word)
 
-abbrev pub trial_by : List (List ℕ) → Option Command
-trial_by (word ∷ []) = trial_over word
-trial_by _ = None
-
 -- trial N, without options
 abbrev pub trial_of : List Part → Option Command
-trial_of parts = if list_all is_place parts then trial_by (filter_map place_in parts) else None
+trial_of parts = places_of (one_by trial_over) parts
+
+-- what is wished of events that are followed: no bounds, the indices of all seconds, and the entries of each line at once
+abbrev pub follow_wish : Wish
+follow_wish = record { with_bounds = false; period = period_given None None; at_once = true }
+
+-- the replay of a network and of the events that come from standard input
+abbrev pub follow_on : List ℕ → Option Command
+follow_on net = Some (Replay (record { net = net; events = codes "-" }) follow_wish)
+
+-- follow NET, without options
+abbrev pub follow_of : List Part → Option Command
+follow_of parts = places_of (one_by follow_on) parts
 
 abbrev pub command_by : List ℕ → List Part → Option Command
 command_by word parts =
     if bytes_eq word (codes "replay") then replay_of parts
-    else (if bytes_eq word (codes "check") then check_of parts else (if bytes_eq word (codes "trial") then trial_of parts else None))
+    else (if bytes_eq word (codes "check") then check_of parts
+    else (if bytes_eq word (codes "trial") then trial_of parts else (if bytes_eq word (codes "follow") then follow_of parts else None)))
 
 -- the command of the words behind the program's name, where they are of a form
 unfoldable pub command_of : List (List ℕ) → Option Command

@@ -4,7 +4,7 @@ use Rattle.std.specs.List.{list_all, list_any}
 use Rattle.std.specs.Option.{option_to_list}
 use Rattle.event_rules.specs.Stamps.{stamp_of}
 use Rattle.command_words.specs.declared.words.Wish.{Wish}
-use Rattle.command_words.specs.Forms.{Command, Part, Bounds, place_in, from_in, to_in, flag_in, is_stray, is_place, once_at_most, second_given, wish_by, two_places, replay_by, check_by, trial_by}
+use Rattle.command_words.specs.Forms.{Command, Part, Bounds, place_in, from_in, to_in, flag_in, is_stray, is_place, once_at_most, second_given, wish_by, two_places, replay_by}
 
 -- what the parts that were taken gave
 pub record Given : Type 0 where
@@ -28,11 +28,9 @@ wish_after g parts =
 unfoldable pub replay_after : Given → List Part → Option Command
 replay_after g parts = replay_by (two_places (g.places ++ filter_map place_in parts)) (wish_after g parts)
 
-unfoldable pub check_after : List (List ℕ) → List Part → Option Command
-check_after places parts = if list_all is_place parts then check_by (places ++ filter_map place_in parts) else None
-
-unfoldable pub trial_after : List (List ℕ) → List Part → Option Command
-trial_after places parts = if list_all is_place parts then trial_by (places ++ filter_map place_in parts) else None
+-- what places come to without options, with the parts that are left
+unfoldable pub places_after : (List (List ℕ) → Option Command) → List (List ℕ) → List Part → Option Command
+places_after by places parts = if list_all is_place parts then by (places ++ filter_map place_in parts) else None
 
 -- the second that an option's text names, if the option is given
 abbrev pub second_in : Option (List ℕ) → Option (Option ℕ)

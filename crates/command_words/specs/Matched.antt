@@ -2,7 +2,7 @@
 use Rattle.std.specs.Prelude.{◌≡◌, Bool, true, false, List, Option, Some, None, if◌then◌else◌, option_and_then, codes}
 use Rattle.std.specs.Str.{bytes_eq}
 use Rattle.clap.specs.Walk.{Row, Text, first_of, one_of}
-use Rattle.command_words.specs.Forms.{Command, Places, Check, replay_by, trial_over, wish_by}
+use Rattle.command_words.specs.Forms.{Command, Places, Check, replay_by, trial_over, follow_on, wish_by}
 use Rattle.command_words.specs.Given.{second_in}
 
 abbrev pub places_by : Option Text → Option Text → Option Places
@@ -33,15 +33,30 @@ check_in rows =
 unfoldable pub trial_in : List Row → Option Command
 trial_in rows = option_and_then trial_over (first_of (codes "n") rows)
 
+unfoldable pub follow_in : List Row → Option Command
+follow_in rows = option_and_then follow_on (first_of (codes "net") rows)
+
 -- what reads a command from rows
 abbrev pub Read : Type 0
 Read = List Row → Option Command
 
+-- what reads each command
+pub record Reads : Type 0 where
+  pub replay : Read
+  pub check : Read
+  pub trial : Read
+  pub follow : Read
+
+-- how the program reads them
+abbrev pub own_reads : Reads
+own_reads = record { replay = replay_in; check = check_in; trial = trial_in; follow = follow_in }
+
 -- what is read of a subcommand, by its name and its rows
-abbrev pub command_by_name : Read → Read → Read → Option (Text × List Row) → Option Command
-command_by_name replay check trial None = None
-command_by_name replay check trial (Some p) =
-    if bytes_eq p.0 (codes "replay") then replay p.1 else (if bytes_eq p.0 (codes "check") then check p.1 else trial p.1)
+abbrev pub command_by_name : Reads → Option (Text × List Row) → Option Command
+command_by_name reads None = None
+command_by_name reads (Some p) =
+    if bytes_eq p.0 (codes "replay") then reads.replay p.1
+    else (if bytes_eq p.0 (codes "check") then reads.check p.1 else (if bytes_eq p.0 (codes "trial") then reads.trial p.1 else reads.follow p.1))
 
 -- the text of the flag says whether it is set
 abbrev pub IsKnown : Option (Text × List Row) → Type 0

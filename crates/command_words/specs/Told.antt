@@ -25,8 +25,15 @@ replay_app = with_rule (with_rule (with_rule replay_places_app (flag_rule (codes
 abbrev pub check_app : App
 check_app = with_rule (with_rule (with_rule (new_app (codes "check")) (place_rule (codes "net"))) (place_rule (codes "events"))) (place_rule (codes "report"))
 
+-- a command of one place
+abbrev pub one_place_app : Text → Text → App
+one_place_app name id = with_rule (new_app name) (place_rule id)
+
 abbrev pub trial_app : App
-trial_app = with_rule (new_app (codes "trial")) (place_rule (codes "n"))
+trial_app = one_place_app (codes "trial") (codes "n")
+
+abbrev pub follow_app : App
+follow_app = one_place_app (codes "follow") (codes "net")
 
 abbrev pub bare_app : App
 bare_app = on_top (λ (s : Shape). record s { disable_help_flag = true; disable_help_subcommand = true; disable_version_flag = true; subcommand_required = true }) (new_app (codes "outage"))
@@ -37,5 +44,8 @@ replays_app = with_subcommand bare_app replay_app.top
 abbrev pub checks_app : App
 checks_app = with_subcommand replays_app check_app.top
 
+abbrev pub trials_app : App
+trials_app = with_subcommand checks_app trial_app.top
+
 unfoldable pub outage_app : App
-outage_app = with_subcommand checks_app trial_app.top
+outage_app = with_subcommand trials_app follow_app.top

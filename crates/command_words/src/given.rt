@@ -2,7 +2,7 @@
 ghost use Rattle.std.specs.Prelude.{◌≡◌, Some, option_map, not};
 ghost use Rattle.std.specs.Option.{option_copied};
 ghost use Rattle.event_rules.specs.Decimals.{decimal_within};
-ghost use Rattle.command_words.specs.Forms.{wish_by, wish_with, runs_on};
+ghost use Rattle.command_words.specs.Forms.{follow_wish, wish_by, wish_with, runs_on};
 ghost use Rattle.command_words.specs.Given.{second_in};
 
 use crate::words::Wish;
@@ -41,6 +41,7 @@ fn wish_between(with_bounds: bool, from: Option<Stamp>, until: Option<Stamp>) ->
     Some(Wish {
         with_bounds,
         period: Period { from, until },
+        at_once: false,
     })
 }
 
@@ -52,6 +53,21 @@ pub(crate) fn read_wish(with_bounds: bool, from: Option<&str>, until: Option<&st
     let from = read_second(from)?;
     let until = read_second(until)?;
     wish_between(with_bounds, from, until)
+}
+
+/// The wish of events that are followed: no bounds, the indices of all seconds, and the entries of
+/// each line at once.
+pub(crate) fn follow_wish() -> Wish
+    ensures { result ≡ follow_wish }
+{
+    Wish {
+        with_bounds: false,
+        period: Period {
+            from: Stamp(0),
+            until: None,
+        },
+        at_once: true,
+    }
 }
 
 // The most feeders that a trial is over.

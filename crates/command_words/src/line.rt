@@ -2,7 +2,7 @@
 ghost use Rattle.std.specs.Prelude.{◌≡◌, false, IfOk};
 ghost use Rattle.clap.specs.Words.{rule_of, app_of};
 ghost use Rattle.clap.specs.declared.builder.command.Command.TheViews.{out-Command as fields_of};
-ghost use Rattle.command_words.specs.Told.{place_rule, option_rule, flag_rule, replay_places_app, replay_app, check_app, trial_app, bare_app, replays_app, checks_app, outage_app};
+ghost use Rattle.command_words.specs.Told.{place_rule, option_rule, flag_rule, replay_places_app, replay_app, check_app, one_place_app, bare_app, replays_app, checks_app, trials_app, outage_app};
 
 use clap::{Arg, ArgAction, Command};
 use std::alloc::{AllocError, Global};
@@ -38,11 +38,11 @@ fn check<'a>(alloc: Global) -> Result<Command<'a>, AllocError>
         .arg(place(alloc, "report"))
 }
 
-fn trial<'a>(alloc: Global) -> Result<Command<'a>, AllocError>
-    ensures app { IfOk result (λ c. app_of c ≡ trial_app) }
+fn one_place<'a>(alloc: Global, name: &'a str, id: &'a str) -> Result<Command<'a>, AllocError>
+    ensures app { IfOk result (λ c. app_of c ≡ one_place_app name.entry.now id.entry.now) }
     ensures local { IfOk result (λ c. (fields_of c).has_globals ≡ false) }
 {
-    Command::new(alloc, "trial").arg(place(alloc, "n"))
+    Command::new(alloc, name).arg(place(alloc, id))
 }
 
 fn replay_places<'a>(alloc: Global) -> Result<Command<'a>, AllocError>
@@ -89,11 +89,18 @@ fn with_check<'a>(alloc: Global) -> Result<Command<'a>, AllocError>
     with_replay(alloc)?.subcommand(check(alloc)?)
 }
 
-/// The program's command line: `replay`, `check` and `trial`.
+fn with_trial<'a>(alloc: Global) -> Result<Command<'a>, AllocError>
+    ensures app { IfOk result (λ c. app_of c ≡ trials_app) }
+    ensures local { IfOk result (λ c. (fields_of c).has_globals ≡ false) }
+{
+    with_check(alloc)?.subcommand(one_place(alloc, "trial", "n")?)
+}
+
+/// The program's command line: `replay`, `check`, `trial` and `follow`.
 #[tactic(auto, unfolding(crate::specs::Told::outage_app))]
 pub(crate) fn command_line<'a>(alloc: Global) -> Result<Command<'a>, AllocError>
     ensures app { IfOk result (λ c. app_of c ≡ outage_app) }
     ensures local { IfOk result (λ c. (fields_of c).has_globals ≡ false) }
 {
-    with_check(alloc)?.subcommand(trial(alloc)?)
+    with_trial(alloc)?.subcommand(one_place(alloc, "follow", "net")?)
 }

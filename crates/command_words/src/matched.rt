@@ -1,12 +1,12 @@
 //! The command that matches of the command line give.
 ghost use Rattle.std.specs.Prelude.{◌≡◌, Bool, Some, option_map, option_and_then, codes};
 ghost use Rattle.clap.specs.Words.{found_of, rows_of, subcommand_rows_of};
-ghost use Rattle.command_words.specs.Matched.{IsKnown, command_by_name, replay_in, check_in, check_with, trial_in, flag_in, places_by};
+ghost use Rattle.command_words.specs.Matched.{IsKnown, command_by_name, own_reads, replay_in, check_in, check_with, trial_in, follow_in, flag_in, places_by};
 ghost use Rattle.command_words.specs.Seen.{command_view, places_view};
 ghost use Rattle.std.specs.Option.{option_copied};
-ghost use Rattle.command_words.specs.Forms.{replay_by, trial_over};
+ghost use Rattle.command_words.specs.Forms.{replay_by, trial_over, follow_on};
 
-use crate::given::{read_feeders, read_wish};
+use crate::given::{follow_wish, read_feeders, read_wish};
 use crate::words::{Command, Places, Wish};
 use clap::ArgMatches;
 
@@ -70,10 +70,26 @@ fn read_trial<'a>(matches: &ArgMatches<'a>) -> Option<Command<'a>>
     trial_of(matches.get_str("n"))
 }
 
+// The name of standard input.
+const INPUT: &str = "-";
+
+fn follow_of<'a>(net: Option<&'a str>) -> Option<Command<'a>>
+    ensures { option_map command_view result ≡ option_and_then follow_on (option_copied net.entry) }
+{
+    let net = net?;
+    Some(Command::Replay(Places { net, events: INPUT }, follow_wish()))
+}
+
+fn read_follow<'a>(matches: &ArgMatches<'a>) -> Option<Command<'a>>
+    ensures { option_map command_view result ≡ follow_in (rows_of (found_of matches.now)) }
+{
+    follow_of(matches.get_str("net"))
+}
+
 // The command of a subcommand, by its name.
 fn read_named<'a>(name: &str, matches: &ArgMatches<'a>) -> Option<Command<'a>>
     requires { IsKnown (Some (name.now, rows_of (found_of matches.now))) }
-    ensures { option_map command_view result ≡ command_by_name replay_in check_in trial_in (Some (name.now, rows_of (found_of matches.now))) }
+    ensures { option_map command_view result ≡ command_by_name own_reads (Some (name.now, rows_of (found_of matches.now))) }
 {
     if name == "replay" {
         return read_replay(matches);
@@ -81,14 +97,17 @@ fn read_named<'a>(name: &str, matches: &ArgMatches<'a>) -> Option<Command<'a>>
     if name == "check" {
         return read_check(matches);
     }
-    read_trial(matches)
+    if name == "trial" {
+        return read_trial(matches);
+    }
+    read_follow(matches)
 }
 
 /// The command of the matches; none where an option is no stamp, where a period ends before it
 /// begins, or where a place is to be a number and is none.
 pub(crate) fn read_matches<'a>(matches: &ArgMatches<'a>) -> Option<Command<'a>>
     requires { IsKnown (subcommand_rows_of matches.now) }
-    ensures { option_map command_view result ≡ command_by_name replay_in check_in trial_in (subcommand_rows_of matches.now) }
+    ensures { option_map command_view result ≡ command_by_name own_reads (subcommand_rows_of matches.now) }
 {
     match matches.subcommand() {
         Some((name, inner)) => read_named(name, inner),

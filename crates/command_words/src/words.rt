@@ -26,12 +26,14 @@ pub struct Wish {
     pub with_bounds: bool,
     /// The period of the indices.
     pub period: Period,
+    /// Whether the entries of each line are handed on at once, and not only with those of others.
+    pub at_once: bool,
 }
 
 /// What the words ask for.
 #[derive(Clone, Copy)]
 pub enum Command<'a> {
-    /// A replay.
+    /// A replay; also one of events that are followed as they come, from standard input.
     Replay(Places<'a>, Wish),
     /// The check of a report.
     Check(Places<'a>, &'a str),

@@ -6,6 +6,7 @@ ghost use Rattle.outage_rules.specs.TreeOrder.{source_total};
 ghost use Rattle.grid_model.specs.Network.{network_of, problem_with};
 ghost use Rattle.grid_model.specs.Sound.{IsSoundParts};
 ghost use Rattle.radial_forest.specs.Traversed.{IsTraversed};
+ghost use Rattle.subtree_costs.specs.Costed.{most_reported};
 ghost use Rattle.diagnosis.specs.Passes.{with_rows};
 
 use crate::above::device_above;
@@ -18,7 +19,7 @@ use std::alloc::{AllocError, Global};
 /// devices, and the dark weights of the nodes that stay live. An error says that memory ran out.
 pub fn least(alloc: Global, grid: &Grid, dark: &[u64]) -> Result<u64, AllocError>
     requires each { length dark.now ≡ length grid.now.nodes }
-    requires bound { sum dark.now ≤ 1_000_000_000_000 }
+    requires bound { sum dark.now ≤ most_reported }
     ensures { IfOk result (λ c. IsLeastCost (problem_with grid.now (λ n. slice_index dark.now n)) c) }
 {
     let traversal = starting_traversal(alloc, grid)?;
@@ -31,7 +32,7 @@ fn least_by_rows(grid: &Grid, traversal: &Traversal, rows: &mut [u64]) -> u64
     requires sound { IsSoundParts grid.now }
     requires traversed { IsTraversed (network_of grid.now) traversal.now }
     requires each { length rows.old ≡ length grid.now.nodes }
-    requires bound { sum rows.old ≤ 1_000_000_000_000 }
+    requires bound { sum rows.old ≤ most_reported }
     ensures { IsLeastCost (problem_with grid.now (slice_index rows.old)) result }
 {
     add_up(grid, traversal, rows);
@@ -44,7 +45,7 @@ fn add_up(grid: &Grid, traversal: &Traversal, rows: &mut [u64])
     requires sound { IsSoundParts grid.now }
     requires traversed { IsTraversed (network_of grid.now) traversal.now }
     requires each { length rows.old ≡ length grid.now.nodes }
-    requires bound { sum rows.old ≤ 1_000_000_000_000 }
+    requires bound { sum rows.old ≤ most_reported }
     ensures { HasExactRows (problem_with grid.now (slice_index rows.old)) (with_rows traversal.now (slice_index rows.new) (λ n. 0)) }
 {
     let order = traversal.order();

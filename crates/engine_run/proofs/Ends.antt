@@ -8,27 +8,28 @@ use Rattle.std.proofs.lemmas.List.{append_assoc, append-nil, length-append, take
 use Rattle.grid_model.specs.Parts.{Parts}
 use Rattle.grid_model.specs.declared.history.Event.{Event}
 use Rattle.event_rules.specs.Lines.{lines}
-use Rattle.grid_reader.specs.Laws.{TextIsSound}
+use Rattle.grid_reader.specs.Text.{grid_text, IsGrid}
 use Rattle.history_rules.specs.Posed.{problem_after}
 use Rattle.bound_table.specs.Printed.{bounds_text}
 use Rattle.bound_table.specs.Tight.{tight_bounds}
 use Rattle.history_rules.specs.Run.{ended_lines, counted, before_counted, lines_within, history_of}
 use Rattle.history_rules.specs.Output.{entries, replay_text}
 use Rattle.history_rules.specs.Report.{report_text, refused_in}
-use Rattle.history_rules.specs.Laws.{LinesOfLimit, HistoryIsDiagnosed}
+use Rattle.history_rules.specs.Laws.{LinesOfLimit}
 use Rattle.outage_engine.specs.Engined.{Engined, IsEngineAfter}
 use Rattle.outage_ports.specs.Bytes.{Files, AppendsPrefix}
-use Rattle.command_words.specs.Forms.{Places, Command, Replay}
+use Rattle.command_words.specs.Forms.{Places, Replay}
 use Rattle.run_rules.specs.Files.{most_events, most_event_lines}
 use Rattle.run_rules.specs.Told.{last_problem, bounds_part, report_after, output, is_within_limits, entries_taken, text_due}
-use Rattle.run_rules.specs.Run.{CanReplay, CanBegin}
-use Rattle.event_run.specs.Reading.{ReadsAll, DidReadAll, DidStop, DidMeetLines, DidMeetBytes, DidWritePart, Stops}
+use Rattle.run_rules.specs.Run.{run_of, CanReplay, CanBegin, IsSilentReplay}
+use Rattle.run_rules.specs.Closing.{IsToldThroughout, ShowsBounds}
+use Rattle.run_rules.specs.Ends.{IsEnd}
+use Rattle.event_run.specs.Reading.{ReadsAll, DidReadAll, Stops}
 use Rattle.event_run.specs.declared.reading.EventsStop.{EventsStop}
 use Rattle.event_run.specs.declared.reading.EventsStop.TheVariants as ends
 use Rattle.run_rules.specs.Faults.{TellsFaults}
-use Rattle.run_rules.specs.Run.{IsSilentReplay}
 use Rattle.run_rules.proofs.FaultsTold.{tells_as}
-use Rattle.engine_run.specs.Ended.{IsEnd, Runs, DidRun, DidSayNetwork, IsNetworkStop, IsRunStop, status_of_stop}
+use Rattle.engine_run.specs.Ended.{Runs, DidRun, DidSayNetwork, IsNetworkStop, IsRunStop, status_of_stop}
 use Rattle.run_rules.specs.declared.status.Status.{Status}
 use Rattle.run_rules.specs.declared.status.Status.TheVariants.{Done, Invalid, Usage, ReadFault, WriteFault, NetworkRefused, ReportRefused, Limit, Memory}
 use Rattle.run_rules.specs.declared.status.Which.TheVariants.{NetworkBytes, EventLines, EventBytes, ReportBytes}
@@ -76,39 +77,39 @@ due_prefix g bytes wish before now part =
     prefix_of_front before now (entries_taken g bytes) (if is_within_limits bytes then rest_of g bytes wish else []) part
 
 -- where no network was read, nothing was written
-pub network_end : (files : Option Files) (left out : Option (List ℕ)) (places : Places) (wish : Wish) (status : Status) →
-    IsNetworkStop files places.net status → IsEnd files left out out (Some (Replay places wish)) status
-network_end None left out places wish status stop = tt
-network_end (Some files) left out places wish Done stop = absurd stop
-network_end (Some files) left out places wish (Invalid rule) stop = absurd stop
-network_end (Some files) left out places wish Usage stop = absurd stop
-network_end (Some files) left out places wish ReadFault stop = inl refl
-network_end (Some files) left out places wish WriteFault stop = absurd stop
-network_end (Some files) left out places wish (NetworkRefused line rule) stop = stop
-network_end (Some files) left out places wish (ReportRefused line rule) stop = absurd stop
-network_end (Some files) left out places wish (Limit NetworkBytes) stop = (stop, refl)
-network_end (Some files) left out places wish (Limit EventLines) stop = absurd stop
-network_end (Some files) left out places wish (Limit EventBytes) stop = absurd stop
-network_end (Some files) left out places wish (Limit ReportBytes) stop = absurd stop
-network_end (Some files) left out places wish Memory stop = inl refl
+pub network_end : (files : Option Files) (left_before left out : Option (List ℕ)) (places : Places) (wish : Wish) (status : Status) →
+    IsNetworkStop files left_before left places.net status → IsEnd (run_of files left_before left out out (Some (Replay places wish))) status
+network_end None left_before left out places wish status stop = λ e. subst (IsNetworkStop None left_before left places.net) e stop
+network_end (Some files) left_before left out places wish Done stop = absurd stop
+network_end (Some files) left_before left out places wish (Invalid rule) stop = absurd stop
+network_end (Some files) left_before left out places wish Usage stop = absurd stop
+network_end (Some files) left_before left out places wish ReadFault stop = inl (stop, refl)
+network_end (Some files) left_before left out places wish WriteFault stop = absurd stop
+network_end (Some files) left_before left out places wish (NetworkRefused line rule) stop = (stop, refl)
+network_end (Some files) left_before left out places wish (ReportRefused line rule) stop = absurd stop
+network_end (Some files) left_before left out places wish (Limit NetworkBytes) stop = (stop, refl)
+network_end (Some files) left_before left out places wish (Limit EventLines) stop = absurd stop
+network_end (Some files) left_before left out places wish (Limit EventBytes) stop = absurd stop
+network_end (Some files) left_before left out places wish (Limit ReportBytes) stop = absurd stop
+network_end (Some files) left_before left out places wish Memory stop = inl refl
 
-pub network_kind : (files : Option Files) (name : List ℕ) (status : Status) → IsNetworkStop files name status → IsRunStop status
-network_kind files name Done stop = stop
-network_kind files name (Invalid rule) stop = stop
-network_kind files name Usage stop = stop
-network_kind files name ReadFault stop = tt
-network_kind files name WriteFault stop = tt
-network_kind files name (NetworkRefused line rule) stop = tt
-network_kind files name (ReportRefused line rule) stop = stop
-network_kind files name (Limit NetworkBytes) stop = tt
-network_kind files name (Limit EventLines) stop = tt
-network_kind files name (Limit EventBytes) stop = tt
-network_kind files name (Limit ReportBytes) stop = stop
-network_kind files name Memory stop = tt
+pub network_kind : (files : Option Files) (left_before left : Option (List ℕ)) (name : List ℕ) (status : Status) → IsNetworkStop files left_before left name status → IsRunStop status
+network_kind files left_before left name Done stop = stop
+network_kind files left_before left name (Invalid rule) stop = stop
+network_kind files left_before left name Usage stop = stop
+network_kind files left_before left name ReadFault stop = tt
+network_kind files left_before left name WriteFault stop = tt
+network_kind files left_before left name (NetworkRefused line rule) stop = tt
+network_kind files left_before left name (ReportRefused line rule) stop = stop
+network_kind files left_before left name (Limit NetworkBytes) stop = tt
+network_kind files left_before left name (Limit EventLines) stop = tt
+network_kind files left_before left name (Limit EventBytes) stop = tt
+network_kind files left_before left name (Limit ReportBytes) stop = stop
+network_kind files left_before left name Memory stop = tt
 
 -- reading a network writes nothing
-pub no_write : (files : Option Files) (name : List ℕ) (status : Status) → IsNetworkStop files name status → status ≡ WriteFault → ⊥
-no_write files name status stop is = subst (IsNetworkStop files name) is stop
+pub no_write : (files : Option Files) (left_before left : Option (List ℕ)) (name : List ℕ) (status : Status) → IsNetworkStop files left_before left name status → status ≡ WriteFault → ⊥
+no_write files left_before left name status stop is = subst (IsNetworkStop files left_before left name) is stop
 
 -- the statuses of a stop among the events
 pub stop_kind : (s : EventsStop) → IsRunStop (status_of_stop s)
@@ -155,76 +156,56 @@ module _ {X Y : Type 0} (r : Result X EventsStop) (q : Result Y Status) (s : Eve
       (λ e. let same : status_of_stop s ≡ WriteFault = cc in let named = write_of s same in cc) tells
 
 -- memory may run out before anything is written
-pub idle_end : (files : Option Files) (left out : Option (List ℕ)) (command : Command) → IsEnd files left out out (Some command) Memory
-idle_end None left out command = tt
-idle_end (Some files) left out command = inl refl
+pub idle_end : (files : Option Files) (left_before left out : Option (List ℕ)) (places : Places) (wish : Wish) → IsEnd (run_of files left_before left out out (Some (Replay places wish))) Memory
+idle_end None left_before left out places wish = λ e. cc
+idle_end (Some files) left_before left out places wish = inl refl
 
-module _ (files same : Option Files) (are : same ≡ files) (left before now : Option (List ℕ)) (places : Places) (g : Parts) (says : DidSayNetwork files places.net g) where
+-- a run among the events isn't called usage
+never_usage : (s : EventsStop) → status_of_stop s ≡ Usage → ⊥
+never_usage ends.ReadFailed e = cc
+never_usage ends.WriteFailed e = cc
+never_usage ends.TooManyLines e = cc
+never_usage ends.TooManyBytes e = cc
+never_usage ends.Memory e = cc
+
+module _ (files same : Option Files) (are : same ≡ files) (left before now : Option (List ℕ)) (places : Places) (g : Parts) (read : Option (List ℕ)) (says : DidSayNetwork files read places.net g) where
   pub did_run : (e : Engined) (refused : ℕ) → e.grid ≡ g → DidReadAll same places.events left before now g e refused → DidRun files places left before now e refused
   did_run e refused grid all = told files same are says grid all
     where
-      told : (files same : Option Files) → same ≡ files → DidSayNetwork files places.net g → e.grid ≡ g → DidReadAll same places.events left before now g e refused → DidRun files places left before now e refused
+      told : (files same : Option Files) → same ≡ files → DidSayNetwork files read places.net g → e.grid ≡ g → DidReadAll same places.events left before now g e refused → DidRun files places left before now e refused
       told None same are says grid all = tt
       told (Some files) same are says grid all = record {
-        network = subst (λ (p : Parts). DidSayNetwork (Some files) places.net p) (sym grid) says;
+        network = (subst (λ (p : Parts). DidSayNetwork (Some files) read places.net p) (sym grid) says).0;
         events = subst (λ (p : Parts). ReadsAll files places.events left before now p e refused) (sym grid) (subst (λ (f : Option Files). DidReadAll f places.events left before now g e refused) are all);
       }
 
-  module _ (wish : Wish) where
-    stop_end : DidStop same places.events before now g → IsEnd files left before now (Some (Replay places wish)) ReadFault
-    stop_end stop = told files says (subst (λ (f : Option Files). DidStop f places.events before now g) are stop)
-      where
-        told : (files : Option Files) → DidSayNetwork files places.net g → DidStop files places.events before now g → IsEnd files left before now (Some (Replay places wish)) ReadFault
-        told None says stop = tt
-        told (Some files) says stop = inr (record { parts = g; network = says; taken = stop.taken; front = stop.front; written = stop.written })
-
-    lines_end : DidMeetLines same places.events before now g → IsEnd files left before now (Some (Replay places wish)) (Limit EventLines)
-    lines_end meets = told files says (subst (λ (f : Option Files). DidMeetLines f places.events before now g) are meets)
-      where
-        told : (files : Option Files) → DidSayNetwork files places.net g → DidMeetLines files places.events before now g → IsEnd files left before now (Some (Replay places wish)) (Limit EventLines)
-        told None says meets = tt
-        told (Some files) says meets = (
-          record { parts = g; bytes = meets.0; network = says; many = meets.1 },
-          record { can = record { parts = g; bytes = meets.0; network = says; are = meets.1.are }; written = meets.2 },
-        )
-
-    bytes_end : DidMeetBytes same places.events before now g → IsEnd files left before now (Some (Replay places wish)) (Limit EventBytes)
-    bytes_end meets = told files says (subst (λ (f : Option Files). DidMeetBytes f places.events before now g) are meets)
-      where
-        told : (files : Option Files) → DidSayNetwork files places.net g → DidMeetBytes files places.events before now g → IsEnd files left before now (Some (Replay places wish)) (Limit EventBytes)
-        told None says meets = tt
-        told (Some files) says meets = (
-          record { parts = g; bytes = meets.0; network = says; long = meets.1 },
-          record { can = record { parts = g; bytes = meets.0; network = says; are = meets.1.are }; written = meets.2 },
-        )
-
-    write_end : DidWritePart same places.events before now g → IsEnd files left before now (Some (Replay places wish)) WriteFault
-    write_end part = told files says (subst (λ (f : Option Files). DidWritePart f places.events before now g) are part)
-      where
-        told : (files : Option Files) → DidSayNetwork files places.net g → DidWritePart files places.events before now g → IsEnd files left before now (Some (Replay places wish)) WriteFault
-        told None says part = tt
-        told (Some files) says part = record {
-          can = record { parts = g; bytes = part.0; network = says; are = part.1 };
-          written = due_prefix g part.0 wish before now part.2;
-        }
-
-    memory_end : DidWritePart same places.events before now g → IsEnd files left before now (Some (Replay places wish)) Memory
-    memory_end part = told files says (subst (λ (f : Option Files). DidWritePart f places.events before now g) are part)
-      where
-        told : (files : Option Files) → DidSayNetwork files places.net g → DidWritePart files places.events before now g → IsEnd files left before now (Some (Replay places wish)) Memory
-        told None says part = tt
-        told (Some files) says part = inr (record {
-          can = record { parts = g; bytes = part.0; network = says; are = part.1 };
-          written = due_prefix g part.0 wish before now part.2;
-        })
-
-    -- whatever stopped it
-    pub stop_ended : (s : EventsStop) → Stops same places.events before now g s → IsEnd files left before now (Some (Replay places wish)) (status_of_stop s)
-    stop_ended ends.ReadFailed stops = stop_end stops
-    stop_ended ends.WriteFailed stops = write_end stops
-    stop_ended ends.TooManyLines stops = lines_end stops
-    stop_ended ends.TooManyBytes stops = bytes_end stops
-    stop_ended ends.Memory stops = memory_end stops
+  -- whatever stopped it
+  pub stop_ended : (left_before : Option (List ℕ)) (wish : Wish) (s : EventsStop) → Stops same places.events read left before now g s →
+      IsEnd (run_of files left_before left before now (Some (Replay places wish))) (status_of_stop s)
+  stop_ended left_before wish s stops = told files says s (subst (λ (f : Option Files). Stops f places.events read left before now g s) are stops)
+    where
+      told : (files : Option Files) → DidSayNetwork files read places.net g → (s : EventsStop) → Stops files places.events read left before now g s →
+          IsEnd (run_of files left_before left before now (Some (Replay places wish))) (status_of_stop s)
+      told None says s stops = never_usage s
+      told (Some files) says ends.ReadFailed (inl idle) = inr (record { parts = g; network = says.0; stops = inl (idle.0 ∙ says.1, idle.1) })
+      told (Some files) says ends.ReadFailed (inr stop) =
+          inr (record { parts = g; network = says.0; stops = inr (record { front = stop.front; fails = stop.fails; written = stop.written }) })
+      told (Some files) says ends.WriteFailed part = record {
+        can = record { parts = g; bytes = part.0; network = says.0; are = part.1 };
+        written = due_prefix g part.0 wish before now part.2;
+      }
+      told (Some files) says ends.TooManyLines meets = (
+        record { parts = g; bytes = meets.0; network = says.0; many = meets.1 },
+        record { can = record { parts = g; bytes = meets.0; network = says.0; are = meets.1.are }; written = meets.2 },
+      )
+      told (Some files) says ends.TooManyBytes meets = (
+        record { parts = g; bytes = meets.0; network = says.0; long = meets.1 },
+        record { can = record { parts = g; bytes = meets.0; network = says.0; are = meets.1.are }; written = meets.2 },
+      )
+      told (Some files) says ends.Memory part = inr (record {
+        can = record { parts = g; bytes = part.0; network = says.0; are = part.1 };
+        written = due_prefix g part.0 wish before now part.2;
+      })
 
 -- events within their limits are all taken
 module _ (law : LinesOfLimit) (bytes : List ℕ) (fits : length bytes ≤ most_events) (few : length (counted (lines bytes)) ≤ most_event_lines) where
@@ -305,31 +286,31 @@ module _ (law : LinesOfLimit) (files : Files) (left before mid now : Option (Lis
       subst (Appends before now) (sym (whole_output e.grid ran.events.bytes wish))
       (appends_both before mid now (entries e.grid 1 [] (lines ran.events.bytes)) (rest_of e.grid ran.events.bytes wish) ran.events.written (subst (Appends mid now) (last_is e.grid ran.events.bytes wish refused ran.events.refusals) all))
 
-module _ (law : LinesOfLimit) (left before mid now : Option (List ℕ)) (places : Places) (wish : Wish) (e : Engined) (refused : ℕ) where
+module _ (law : LinesOfLimit) (left_before left before mid now : Option (List ℕ)) (places : Places) (wish : Wish) (e : Engined) (refused : ℕ) where
   module _ (part : (h : List Event) → IsEngineAfter h e → AppendsPrefix mid now (report_after e.grid wish refused h)) where
     due_part : (files : Files) (ran : Runs files places left before mid e refused) → AppendsPrefix before now (text_due e.grid ran.events.bytes wish)
     due_part files ran = ran_part law files left before mid now places wish e refused ran (part (history_of e.grid ran.events.bytes) ran.events.engine)
 
-    pub replay_part : (files : Option Files) → DidRun files places left before mid e refused → IsEnd files left before now (Some (Replay places wish)) WriteFault
-    replay_part None ran = tt
+    pub replay_part : (files : Option Files) → DidRun files places left before mid e refused → IsEnd (run_of files left_before left before now (Some (Replay places wish))) WriteFault
+    replay_part None ran = λ e. cc
     replay_part (Some files) ran = record { can = begin_of files left before mid places e refused ran; written = due_part files ran }
 
-    pub replay_memory : (files : Option Files) → DidRun files places left before mid e refused → IsEnd files left before now (Some (Replay places wish)) Memory
-    replay_memory None ran = tt
+    pub replay_memory : (files : Option Files) → DidRun files places left before mid e refused → IsEnd (run_of files left_before left before now (Some (Replay places wish))) Memory
+    replay_memory None ran = λ e. cc
     replay_memory (Some files) ran = inr (record { can = begin_of files left before mid places e refused ran; written = due_part files ran })
 
   module _ (all : (h : List Event) → IsEngineAfter h e → Appends mid now (report_after e.grid wish refused h)) where
     done_all : (files : Files) (ran : Runs files places left before mid e refused) → Appends before now (output e.grid ran.events.bytes wish)
     done_all files ran = ran_done law files left before mid now places wish e refused ran (all (history_of e.grid ran.events.bytes) ran.events.engine)
 
-    pub replay_done : (files : Option Files) → TextIsSound → HistoryIsDiagnosed → DidRun files places left before mid e refused → IsEnd files left before now (Some (Replay places wish)) Done
-    replay_done None sound diagnosed ran = tt
-    replay_done (Some files) sound diagnosed ran =
-        let fits = sound ran.network.bytes e.grid ran.network.grid in
-        record {
-          can = can_of files left before mid places e refused ran;
-          read = ran.events.read;
-          diagnosis = λ h history. (diagnosed e.grid h fits history).diagnosis;
-          least = λ h history. (diagnosed e.grid h fits history).least;
-          written = done_all files ran;
-        }
+    pub replay_done : (files : Option Files) → ((text : List ℕ) (g : Parts) (events : List ℕ) → grid_text text ≡ IsGrid g → IsToldThroughout g events) →
+        ((text : List ℕ) (g : Parts) (events : List ℕ) → grid_text text ≡ IsGrid g → ShowsBounds g events) →
+        DidRun files places left before mid e refused → IsEnd (run_of files left_before left before now (Some (Replay places wish))) Done
+    replay_done None told shown ran = λ e. cc
+    replay_done (Some files) told shown ran = record {
+      can = can_of files left before mid places e refused ran;
+      read = ran.events.read;
+      written = done_all files ran;
+      told = told ran.network.bytes e.grid ran.events.bytes ran.network.grid;
+      shown = shown ran.network.bytes e.grid ran.events.bytes ran.network.grid;
+    }

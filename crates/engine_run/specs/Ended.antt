@@ -1,36 +1,18 @@
--- How a run ends: what each status says of the files, and of what was written.
-use Rattle.std.specs.Prelude.{◌≡◌, ◌⊎◌, ⊤, ℕ, List, Option, None, Some}
+-- What the run over the network and the events says of their files.
+use Rattle.std.specs.Prelude.{◌≡◌, ⊤, ℕ, List, [], Option, None, Some}
 use Rattle.grid_model.specs.Parts.{Parts}
 use Rattle.outage_engine.specs.Engined.{Engined}
 use Rattle.outage_ports.specs.Bytes.{Files}
-use Rattle.command_words.specs.Forms.{Places, Command}
+use Rattle.command_words.specs.Forms.{Places}
+use Rattle.whole_file.specs.Whole.{StopsUnread}
 use Rattle.run_rules.specs.Files.{most_network, IsTooLong, SaysNetwork, RefusesNetworkAt}
 use Rattle.event_run.specs.Reading.{ReadsAll}
 use Rattle.event_run.specs.declared.reading.EventsStop.{EventsStop}
 use Rattle.event_run.specs.declared.reading.EventsStop.TheVariants.{ReadFailed, WriteFailed, TooManyLines, TooManyBytes}
 use Rattle.event_run.specs.declared.reading.EventsStop.TheVariants as ends
-use Rattle.run_rules.specs.Run.{Did, Found, DidPart, Leaves, RefusesNetwork, RefusesReport, IsOver, Cuts}
 use Rattle.run_rules.specs.declared.status.Status.{Status}
-use Rattle.run_rules.specs.declared.status.Status.TheVariants.{Done, Invalid, Usage, ReadFault, WriteFault, NetworkRefused, ReportRefused, Limit, Memory}
+use Rattle.run_rules.specs.declared.status.Status.TheVariants.{ReadFault, WriteFault, NetworkRefused, Limit, Memory}
 use Rattle.run_rules.specs.declared.status.Which.TheVariants.{NetworkBytes, EventLines, EventBytes}
-
--- a run of a command that ends with this status
-abbrev pub EndsAs : Files → Option (List ℕ) → Option (List ℕ) → Option (List ℕ) → Command → Status → Type 0
-EndsAs files left before now command Done = Did files left before now command
-EndsAs files left before now command (Invalid rule) = Found files left before now command rule
-EndsAs files left before now command Usage = ⊥
-EndsAs files left before now command ReadFault = Leaves files before now command
-EndsAs files left before now command WriteFault = DidPart files before now command
-EndsAs files left before now command (NetworkRefused line rule) = RefusesNetwork files command line rule
-EndsAs files left before now command (ReportRefused line rule) = RefusesReport files command line rule
-EndsAs files left before now command (Limit which) = IsOver files command which × Cuts files before now command which
-EndsAs files left before now command Memory = (now ≡ before) ⊎ DidPart files before now command
-
--- a run of words: those of no form do nothing, and memory may run out as they are read
-abbrev pub IsEnd : Option Files → Option (List ℕ) → Option (List ℕ) → Option (List ℕ) → Option Command → Status → Type 0
-IsEnd None left before now command status = ⊤
-IsEnd (Some files) left before now None status = (now ≡ before) × ((status ≡ Usage) ⊎ (status ≡ Memory))
-IsEnd (Some files) left before now (Some command) status = EndsAs files left before now command status
 
 -- the network was read, and then all events, whose entries were written
 pub record Runs (files : Files) (places : Places) (left before now : Option (List ℕ)) (e : Engined) (refused : ℕ) : Type 0 where
@@ -46,17 +28,17 @@ abbrev pub WhereTold : Option Files → (Files → Type 0) → Type 0
 WhereTold None says = ⊤
 WhereTold (Some files) says = says files
 
--- the file says this network
-abbrev pub DidSayNetwork : Option Files → List ℕ → Parts → Type 0
-DidSayNetwork files name g = WhereTold files (λ told. SaysNetwork told name g)
+-- the file says this network, and was read to its end
+abbrev pub DidSayNetwork : Option Files → Option (List ℕ) → List ℕ → Parts → Type 0
+DidSayNetwork files left name g = WhereTold files (λ told. SaysNetwork told name g × (left ≡ Some []))
 
--- why no network was read
-abbrev pub IsNetworkStop : Option Files → List ℕ → Status → Type 0
-IsNetworkStop files name ReadFault = ⊤
-IsNetworkStop files name (Limit NetworkBytes) = WhereTold files (λ told. IsTooLong told name most_network)
-IsNetworkStop files name (NetworkRefused line rule) = WhereTold files (λ told. RefusesNetworkAt told name line rule)
-IsNetworkStop files name Memory = ⊤
-IsNetworkStop files name status = ⊥
+-- why no network was read, by what was left to read before and after
+abbrev pub IsNetworkStop : Option Files → Option (List ℕ) → Option (List ℕ) → List ℕ → Status → Type 0
+IsNetworkStop files before left name ReadFault = StopsUnread files before left name
+IsNetworkStop files before left name (Limit NetworkBytes) = WhereTold files (λ told. IsTooLong told name most_network)
+IsNetworkStop files before left name (NetworkRefused line rule) = WhereTold files (λ told. RefusesNetworkAt told name line rule)
+IsNetworkStop files before left name Memory = ⊤
+IsNetworkStop files before left name status = ⊥
 
 -- the status of a run that stops before the end of the events
 abbrev pub status_of_stop : EventsStop → Status

@@ -5,8 +5,11 @@ ghost use Rattle.command_words.specs.Forms.{Replay};
 ghost use Rattle.command_words.specs.Seen.{places_view};
 ghost use Rattle.command_words.specs.declared.words.Wish.{Wish};
 ghost use Rattle.run_rules.specs.Faults.{TellsFaults};
-ghost use Rattle.run_rules.specs.Run.{IsSilentReplay};
-ghost use Rattle.engine_run.specs.Ended.{IsEnd, DidRun, DidSayNetwork, IsNetworkStop, IsRunStop, status_of_stop};
+ghost use Rattle.run_rules.specs.Files.{most_event_lines};
+ghost use Rattle.run_rules.specs.Run.{run_of, IsSilentReplay};
+ghost use Rattle.run_rules.specs.Ends.{IsEnd};
+ghost use Rattle.engine_run.specs.Ended.{DidRun, DidSayNetwork, IsNetworkStop};
+ghost use Rattle.engine_run.specs.Ended.{IsRunStop, status_of_stop};
 
 use command_words::Places;
 use event_run::{EventsStop, run_events};
@@ -32,9 +35,11 @@ pub struct Ran {
 fn read_network<S: Shelf>(alloc: Global, name: &str, shelf: &mut S) -> Result<Grid, Status>
     requires allowed { S.allows name.now }
     ensures files { S.files shelf.new ≡ S.files shelf.old }
-    ensures network { IfOk result (DidSayNetwork (S.files shelf.old) name.now) }
-    ensures stopped { IfErr result (IsNetworkStop (S.files shelf.old) name.now) }
-    ensures shelf { TellsFaults (S.faults shelf.old) (S.faults shelf.new) (IsErrOf result Status.ReadFault) }
+    ensures network { IfOk result (DidSayNetwork (S.files shelf.old) (S.left shelf.new) name.now) }
+    ensures stopped { IfErr result (IsNetworkStop (S.files shelf.old) (S.left shelf.old)
+        (S.left shelf.new) name.now) }
+    ensures shelf { TellsFaults (S.faults shelf.old) (S.faults shelf.new)
+        (IsErrOf result Status.ReadFault) }
 {
     let text = match read_whole(alloc, shelf, name, MOST_NETWORK) {
         Ok(text) => text,
@@ -69,11 +74,12 @@ pub fn status_by(stop: EventsStop) -> Status
 }
 
 /// The run over all events: reads the network whole, and then the events in pieces, whose
-/// entries it writes. Where it stops before their end, the error is the status of a replay that
-/// ends there.
+/// entries it writes; at once, it hands those of each line on. Where it stops before their end, the
+/// error is the status of a replay that ends there.
 pub fn run_engine<S: Shelf, K: Sink>(
     alloc: Global,
     places: Places<'_>,
+    at_once: bool,
     shelf: &mut S,
     out: &mut K,
 ) -> Result<Ran, Status>
@@ -81,13 +87,18 @@ pub fn run_engine<S: Shelf, K: Sink>(
     requires events { S.allows places.events.now }
     ensures files { S.files shelf.new ≡ S.files shelf.old }
     ensures engine { IfOk result (λ ran. IsEngine ran.engine) }
-    ensures few { IfOk result (λ ran. ran.engine.field.applied ≤ 2_000_000) }
-    ensures ran { IfOk result (λ ran. DidRun (S.files shelf.old) (places_view places.entry) (S.left shelf.new) (K.written out.old) (K.written out.new) ran.engine ran.refused) }
-    ensures stopped { IfErr result (λ status. (wish : Wish) → IsEnd (S.files shelf.old) (S.left shelf.new) (K.written out.old) (K.written out.new) (Some (Replay (places_view places.entry) wish)) status) }
+    ensures few { IfOk result (λ ran. ran.engine.field.applied ≤ most_event_lines) }
+    ensures ran { IfOk result (λ ran. DidRun (S.files shelf.old) (places_view places.entry)
+        (S.left shelf.new) (K.written out.old) (K.written out.new) ran.engine ran.refused) }
+    ensures stopped { IfErr result (λ status. (wish : Wish) →
+        IsEnd (run_of (S.files shelf.old) (S.left shelf.old) (S.left shelf.new) (K.written out.old)
+        (K.written out.new) (Some (Replay (places_view places.entry) wish))) status) }
     ensures kind { IfErr result IsRunStop }
     ensures idle { IfErr result (λ status. IsSilentReplay status → out.new ≡ out.old) }
-    ensures shelf { TellsFaults (S.faults shelf.old) (S.faults shelf.new) (IsErrOf result Status.ReadFault) }
-    ensures out { TellsFaults (K.faults out.old) (K.faults out.new) (IsErrOf result Status.WriteFault) }
+    ensures shelf { TellsFaults (S.faults shelf.old) (S.faults shelf.new)
+        (IsErrOf result Status.ReadFault) }
+    ensures out { TellsFaults (K.faults out.old) (K.faults out.new)
+        (IsErrOf result Status.WriteFault) }
 {
     let grid = match read_network(alloc, places.net, shelf) {
         Ok(grid) => grid,
@@ -96,7 +107,7 @@ pub fn run_engine<S: Shelf, K: Sink>(
     let Ok(mut engine) = Engine::new(alloc, grid) else {
         return Err(Status::Memory);
     };
-    match run_events(alloc, shelf, places.events, &mut engine, out) {
+    match run_events(alloc, shelf, places.events, &mut engine, out, at_once) {
         Ok(refused) => Ok(Ran { engine, refused }),
         Err(stop) => Err(status_by(stop)),
     }

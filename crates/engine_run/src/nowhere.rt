@@ -15,4 +15,8 @@ impl Sink for Nowhere {
     fn write(&mut self, piece: &[u8]) -> Result<usize, Failed> {
         Ok(piece.len())
     }
+
+    fn flush(&mut self) -> Result<(), Failed> {
+        Ok(())
+    }
 }

@@ -9,24 +9,26 @@ use Rattle.event_reader.specs.Reading.{IsReading}
 use Rattle.event_reader.specs.declared.refusal.ReadRefusal.{ReadRefusal}
 use Rattle.outage_engine.specs.Engined.{Engined}
 use Rattle.event_run.specs.declared.taken.Taken.{Taken}
-use Rattle.event_run.specs.Pieces.{HasTaken, HasMet, IsOneTooMany}
-use Rattle.event_run.proofs.PieceLines.{met_next, met_more}
+use Rattle.event_run.specs.declared.reading.EventsStop.{EventsStop}
+use Rattle.event_run.specs.Pieces.{HasPut, HasWritten, StopsAmong}
+use Rattle.event_run.proofs.PutLines.{put_of, stops_more}
 
 -- of all lines a front was taken, and the reader has the rest left
-pub record HasTakenFront (sofar all : List (List ℕ)) (written : List ℕ) (reader : BlockReader) (taken : Taken) (e : Engined) : Type 0 where
+pub record HasTakenFront (sofar all : List (List ℕ)) (before now : Option (List ℕ)) (reader : BlockReader) (taken : Taken) (e : Engined) : Type 0 where
   pub front : List (List ℕ)
   pub rest : List (List ℕ)
   pub are : all ≡ front ++ rest
   pub left : AreLeft reader rest
-  pub has : HasTaken (sofar ++ front) written taken e
+  pub put : HasPut (sofar ++ front) before now taken e
 
-pub front_none : (sofar all : List (List ℕ)) (written : List ℕ) (reader : BlockReader) (taken : Taken) (e : Engined) → AreLeft reader all → HasTaken sofar written taken e → HasTakenFront sofar all written reader taken e
-front_none sofar all written reader taken e left has = record {
+pub front_none : (sofar all : List (List ℕ)) (before now : Option (List ℕ)) (g : Parts) (reader : BlockReader) (taken : Taken) (e : Engined) → AreLeft reader all → HasWritten sofar before now g taken e
+    → HasTakenFront sofar all before now reader taken e
+front_none sofar all before now g reader taken e left has = record {
   front = [];
   rest = all;
   are = refl;
   left = left;
-  has = subst (λ ls. HasTaken ls written taken e) (sym (append-nil sofar)) has;
+  put = subst (λ ls. HasPut ls before now taken e) (sym (append-nil sofar)) (put_of sofar before now g taken e has);
 }
 
 -- the next line, where something is read of it
@@ -56,29 +58,32 @@ none_of reader g None reads none (line ∷ behind) left = absurd (reads line beh
 none_of reader g (Some read) reads none (line ∷ behind) left = absurd (none read refl)
 
 -- one more line was taken
-pub front_more : (sofar all : List (List ℕ)) (written : List ℕ) (reader new : BlockReader) (taken later : Taken) (e more : Engined) (g : Parts) (read : Result (Option Event) ReadRefusal)
-    → (had : HasTakenFront sofar all written reader taken e) → HasNext had.rest g read
+pub front_more : (sofar all : List (List ℕ)) (before now later : Option (List ℕ)) (reader new : BlockReader) (taken changed : Taken) (e more : Engined) (g : Parts) (read : Result (Option Event) ReadRefusal)
+    → (had : HasTakenFront sofar all before now reader taken e) → HasNext had.rest g read
     → ((line : List ℕ) (rest : List (List ℕ)) → AreLeft reader (line ∷ rest) → AreLeft new rest)
-    → ((lines : List (List ℕ)) (line : List ℕ) → IsReading g line read → HasTaken lines written taken e → HasTaken (lines ++ line ∷ []) written later more)
-    → HasTakenFront sofar all written new later more
-front_more sofar all written reader new taken later e more g read had next leaves takes = record {
+    → ((lines : List (List ℕ)) (line : List ℕ) → IsReading g line read → HasPut lines before now taken e → HasPut (lines ++ line ∷ []) before later changed more)
+    → HasTakenFront sofar all before later new changed more
+front_more sofar all before now later reader new taken changed e more g read had next leaves takes = record {
   front = had.front ++ next.line ∷ [];
   rest = next.behind;
   are = had.are ∙ ap (λ z. had.front ++ z) next.are ∙ sym (append_assoc had.front (next.line ∷ []) next.behind);
   left = leaves next.line next.behind (subst (AreLeft reader) next.are had.left);
-  has = subst (λ ls. HasTaken ls written later more) (append_assoc sofar had.front (next.line ∷ [])) (takes (sofar ++ had.front) next.line next.reading had.has);
+  put = subst (λ ls. HasPut ls before later changed more) (append_assoc sofar had.front (next.line ∷ [])) (takes (sofar ++ had.front) next.line next.reading had.put);
 }
 
--- the next line is one too many
-pub front_met : (sofar all : List (List ℕ)) (written : List ℕ) (reader : BlockReader) (taken later : Taken) (e : Engined) (g : Parts) (read : Result (Option Event) ReadRefusal)
-    → (had : HasTakenFront sofar all written reader taken e) → HasNext had.rest g read → ((line : List ℕ) → IsReading g line read → IsOneTooMany taken line) → later ≡ taken → HasMet (sofar ++ all) written later e.grid
-front_met sofar all written reader taken later e g read had next many same =
-    let met = met_next (sofar ++ had.front) (next.line ∷ []) written taken later e had.has (next.line, refl, many next.line next.reading) same in
+-- the run stops at the next line
+pub front_stops : (sofar all : List (List ℕ)) (before now later : Option (List ℕ)) (reader : BlockReader) (taken : Taken) (e : Engined) (g h : Parts) (read : Result (Option Event) ReadRefusal) (stop : EventsStop)
+    → (had : HasTakenFront sofar all before now reader taken e) → HasNext had.rest g read
+    → ((lines : List (List ℕ)) (line : List ℕ) → IsReading g line read → HasPut lines before now taken e → StopsAmong (lines ++ line ∷ []) before later h stop)
+    → StopsAmong (sofar ++ all) before later h stop
+front_stops sofar all before now later reader taken e g h read stop had next stops =
     let whole : ((sofar ++ had.front) ++ next.line ∷ []) ++ next.behind ≡ sofar ++ all =
     append_assoc (sofar ++ had.front) (next.line ∷ []) next.behind ∙ append_assoc sofar had.front (next.line ∷ next.behind) ∙ ap (λ z. sofar ++ z) (sym (had.are ∙ ap (λ z. had.front ++ z) next.are)) in
-    subst (λ ls. HasMet ls written later e.grid) whole (met_more ((sofar ++ had.front) ++ next.line ∷ []) next.behind written later e.grid met)
+    subst (λ ls. StopsAmong ls before later h stop) whole
+    (stops_more ((sofar ++ had.front) ++ next.line ∷ []) next.behind before later h stop (stops (sofar ++ had.front) next.line next.reading had.put))
 
 -- all lines were taken
-pub front_all : (sofar all : List (List ℕ)) (written : List ℕ) (reader : BlockReader) (taken : Taken) (e : Engined) → (had : HasTakenFront sofar all written reader taken e) → had.rest ≡ [] → HasTaken (sofar ++ all) written taken e
-front_all sofar all written reader taken e had none =
-    subst (λ ls. HasTaken (sofar ++ ls) written taken e) (sym (had.are ∙ ap (λ z. had.front ++ z) none ∙ append-nil had.front)) had.has
+pub front_all : (sofar all : List (List ℕ)) (before now : Option (List ℕ)) (reader : BlockReader) (taken : Taken) (e : Engined) → (had : HasTakenFront sofar all before now reader taken e) → had.rest ≡ []
+    → HasPut (sofar ++ all) before now taken e
+front_all sofar all before now reader taken e had none =
+    subst (λ ls. HasPut (sofar ++ ls) before now taken e) (sym (had.are ∙ ap (λ z. had.front ++ z) none ∙ append-nil had.front)) had.put

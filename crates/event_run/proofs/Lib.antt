@@ -1,4 +1,6 @@
 pub mod ChangeRows
+pub mod Written
+pub mod PutLines
 pub mod TakenLines
 pub mod EventsOfGrid
 pub mod PieceLines

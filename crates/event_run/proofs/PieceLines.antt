@@ -1,5 +1,5 @@
 -- The lines that end in more bytes.
-use Rattle.std.proofs.Common.{◌≡◌, ℕ, ◌+◌, ◌≤◌, Bool, true, false, cond, refl, sym, ap, ◌∙◌, arith, List, [], ◌∷◌, ◌++◌, length, append_assoc}
+use Rattle.std.proofs.Common.{◌≡◌, ℕ, ◌+◌, ◌≤◌, Bool, true, false, cond, refl, sym, ap, ◌∙◌, arith, List, [], ◌∷◌, ◌++◌, length, append_assoc, Option}
 use Rattle.std.specs.Prelude.{◌==◌}
 use Rattle.std.proofs.lemmas.List.{length-append}
 use Rattle.event_rules.specs.Lines.{lines}
@@ -10,9 +10,9 @@ use Rattle.grid_model.specs.Parts.{Parts}
 use Rattle.history_rules.specs.Run.{history_in}
 use Rattle.history_rules.specs.Output.{entries}
 use Rattle.outage_engine.specs.Engined.{Engined, IsEngineAfter}
-use Rattle.event_run.specs.declared.taken.Taken.{Taken}
 use Rattle.event_run.specs.declared.run.Run.{Run}
-use Rattle.event_run.specs.Pieces.{HasTaken, HasRead, IsOneTooMany, HasMet}
+use Rattle.event_run.specs.Pieces.{HasRead}
+use Rattle.event_run.proofs.Written.{appends_none}
 
 -- more bytes behind some
 pub ended_append : (part xs ys : List ℕ) → ended_from part (xs ++ ys) ≡ ended_from part xs ++ ended_from (part_from part xs) ys
@@ -60,33 +60,14 @@ last_few [] = omega arith
 last_few (b ∷ part) = omega arith
 
 -- a run before the first byte
-pub read_none : (run : Run) (e : Engined) → run.taken.number ≡ 0 → run.taken.counted ≡ 0 → run.taken.entries.items ≡ [] → IsAtPart run.cutter [] → IsEngineAfter [] e → HasRead [] [] run e
+pub read_none : (run : Run) (e : Engined) (now : Option (List ℕ)) → run.taken.number ≡ 0 → run.taken.counted ≡ 0 → run.taken.entries.bytes.items ≡ [] → IsAtPart run.cutter [] → IsEngineAfter [] e
+    → HasRead [] now now e.grid run e
 unfolding ended_from part_from history_in entries
-read_none run e number count text part after = record {
-  lines = record { numbers = number; counts = count; few = omega arith; engine = after; printed = text };
+read_none run e now number count text part after = record {
+  lines = record {
+    has = record { numbers = number; counts = count; few = omega arith; engine = after; printed = text };
+    written = appends_none now;
+    grid = refl;
+  };
   part = part;
-}
-
--- the next line is one too many
-pub met_next : (lines : List (List ℕ)) (ended : List (List ℕ)) (written : List ℕ) (old new : Taken) (e : Engined) → HasTaken lines written old e → (line : List ℕ) × (ended ≡ line ∷ []) × IsOneTooMany old line → new ≡ old → HasMet (lines ++ ended) written new e.grid
-met_next lines ended written old new e has over same = record {
-  first = lines;
-  line = over.0;
-  rest = [];
-  are = ap (λ z. lines ++ z) over.1;
-  full = let count = has.counts in let few = has.few in let full = over.2.full in omega arith;
-  counts = over.2.counts;
-  printed = ap (λ t. written ++ t.entries.items) same ∙ has.printed;
-}
-
--- and it stays so with more lines
-pub met_more : (all more : List (List ℕ)) (written : List ℕ) (taken : Taken) (g : Parts) → HasMet all written taken g → HasMet (all ++ more) written taken g
-met_more all more written taken g met = record {
-  first = met.first;
-  line = met.line;
-  rest = met.rest ++ more;
-  are = ap (λ z. z ++ more) met.are ∙ append_assoc met.first (met.line ∷ met.rest) more;
-  full = met.full;
-  counts = met.counts;
-  printed = met.printed;
 }

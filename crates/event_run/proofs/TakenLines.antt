@@ -101,7 +101,7 @@ one_entry g number h line = append-nil (entry g number h (outcome_of g h line))
 pub taken_more : RunOfParts → (lines : List (List ℕ)) (line written : List ℕ) (old new : Taken) (e later : Engined) (o : Outcome) → HasTaken lines written old e
     → later.grid ≡ e.grid → outcome_of e.grid (history_in e.grid [] lines) line ≡ o
     → new.number ≡ old.number + 1 → new.counted ≡ old.counted + length (counted (line ∷ [])) → new.counted ≤ 2000000
-    → new.entries.items ≡ old.entries.items ++ entry e.grid (old.number + 1) (history_in e.grid [] lines) o
+    → new.entries.bytes.items ≡ old.entries.bytes.items ++ entry e.grid (old.number + 1) (history_in e.grid [] lines) o
     → IsEngineAfter (history_by (history_in e.grid [] lines) o) later
     → HasTaken (lines ++ line ∷ []) written new later
 taken_more law lines line written old new e later o has grid is number counts few text after = record {
@@ -111,7 +111,7 @@ taken_more law lines line written old new e later o has grid is number counts fe
   engine = subst (λ h. IsEngineAfter h later) (sym history_is) after;
   printed =
       ap (λ xs. written ++ xs) text
-      ∙ sym (append_assoc written old.entries.items (entry e.grid (old.number + 1) before o))
+      ∙ sym (append_assoc written old.entries.bytes.items (entry e.grid (old.number + 1) before o))
       ∙ ap (λ xs. xs ++ entry e.grid (old.number + 1) before o) has.printed
       ∙ ap (λ n. entries e.grid 1 [] lines ++ entry e.grid n before o) (let numbers = has.numbers in let same : old.number + 1 ≡ 1 + length lines = omega arith in same)
       ∙ ap (λ x. entries e.grid 1 [] lines ++ entry e.grid (1 + length lines) before x) (sym is)

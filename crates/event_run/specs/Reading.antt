@@ -1,5 +1,5 @@
 -- How far the events were read, and what was written of them.
-use Rattle.std.specs.Prelude.{◌≡◌, ⊤, ℕ, List, [], Option, None, Some}
+use Rattle.std.specs.Prelude.{◌≡◌, ◌⊎◌, ⊤, ℕ, List, [], Option, None, Some}
 use Rattle.std.specs.Io.KnownBytes.{Appends}
 use Rattle.grid_model.specs.Parts.{Parts}
 use Rattle.event_rules.specs.Lines.{lines}
@@ -8,7 +8,8 @@ use Rattle.history_rules.specs.Output.{entries}
 use Rattle.history_rules.specs.Report.{refused_in}
 use Rattle.outage_engine.specs.Engined.{Engined, IsEngineAfter}
 use Rattle.outage_ports.specs.Bytes.{Files, AppendsPrefix}
-use Rattle.run_rules.specs.Files.{HasEvents, HasTooManyLines, HasTooManyBytes, IsFrontOf}
+use Rattle.whole_file.specs.Whole.{FailsAt}
+use Rattle.run_rules.specs.Files.{HasEvents, HasTooManyLines, HasTooManyBytes}
 use Rattle.run_rules.specs.Told.{entries_taken}
 use Rattle.event_run.specs.declared.reading.EventsStop.{EventsStop}
 use Rattle.event_run.specs.declared.reading.EventsStop.TheVariants.{ReadFailed, WriteFailed, TooManyLines, TooManyBytes, Memory}
@@ -26,15 +27,16 @@ abbrev pub DidReadAll : Option Files → List ℕ → Option (List ℕ) → Opti
 DidReadAll None name left before now g engine refused = ⊤
 DidReadAll (Some files) name left before now g engine refused = ReadsAll files name left before now g engine refused
 
--- the entries of the lines that ended in these bytes were written
-pub record StopsAt (files : Files) (name : List ℕ) (before now : Option (List ℕ)) (g : Parts) : Type 0 where
-  pub taken : List ℕ
-  pub front : IsFrontOf files name taken
-  pub written : Appends before now (entries g 1 [] (ended_lines taken))
+-- a read failed at a place of the file, and the entries of the lines that ended before it were written
+pub record StopsAt (files : Files) (name : List ℕ) (left before now : Option (List ℕ)) (g : Parts) : Type 0 where
+  pub front : List ℕ
+  pub fails : FailsAt files name left front
+  pub written : Appends before now (entries g 1 [] (ended_lines front))
 
-abbrev pub DidStop : Option Files → List ℕ → Option (List ℕ) → Option (List ℕ) → Parts → Type 0
-DidStop None name before now g = ⊤
-DidStop (Some files) name before now g = StopsAt files name before now g
+-- the file could not be started: nothing was written, and what was left of another one is left; or a read of it failed
+abbrev pub DidStop : Option Files → List ℕ → Option (List ℕ) → Option (List ℕ) → Option (List ℕ) → Option (List ℕ) → Parts → Type 0
+DidStop None name start left before now g = ⊤
+DidStop (Some files) name start left before now g = ((left ≡ start) × (now ≡ before)) ⊎ StopsAt files name left before now g
 
 -- there is a line too many, and the entries of the lines before it were written
 abbrev pub DidMeetLines : Option Files → List ℕ → Option (List ℕ) → Option (List ℕ) → Parts → Type 0
@@ -51,10 +53,10 @@ abbrev pub DidWritePart : Option Files → List ℕ → Option (List ℕ) → Op
 DidWritePart None name before now g = ⊤
 DidWritePart (Some files) name before now g = (bytes : List ℕ) × (files name ≡ Some bytes) × AppendsPrefix before now (entries_taken g bytes)
 
--- what a stop before the end of the events says of the file, and of what was written
-abbrev pub Stops : Option Files → List ℕ → Option (List ℕ) → Option (List ℕ) → Parts → EventsStop → Type 0
-Stops files name before now g ReadFailed = DidStop files name before now g
-Stops files name before now g WriteFailed = DidWritePart files name before now g
-Stops files name before now g TooManyLines = DidMeetLines files name before now g
-Stops files name before now g TooManyBytes = DidMeetBytes files name before now g
-Stops files name before now g Memory = DidWritePart files name before now g
+-- what a stop before the end of the events says of the file, and of what was written: by what was left before it was started, and by what is left
+abbrev pub Stops : Option Files → List ℕ → Option (List ℕ) → Option (List ℕ) → Option (List ℕ) → Option (List ℕ) → Parts → EventsStop → Type 0
+Stops files name start left before now g ReadFailed = DidStop files name start left before now g
+Stops files name start left before now g WriteFailed = DidWritePart files name before now g
+Stops files name start left before now g TooManyLines = DidMeetLines files name before now g
+Stops files name start left before now g TooManyBytes = DidMeetBytes files name before now g
+Stops files name start left before now g Memory = DidWritePart files name before now g

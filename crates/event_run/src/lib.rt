@@ -2,6 +2,7 @@
 //! written before more is read.
 #![tactic(auto)]
 
+mod kept;
 mod reading;
 mod run;
 mod taken;

@@ -3,15 +3,15 @@ ghost use Rattle.std.specs.Prelude.{◌≡◌, ◌≤◌, ◌<◌, ℕ, List, []
 ghost use Rattle.grid_model.specs.Parts.{Parts};
 ghost use Rattle.outage_engine.specs.Engined.{IsEngineAfter, IsEngine};
 ghost use Rattle.run_rules.specs.Faults.{TellsFaults};
+ghost use Rattle.run_rules.specs.Files.{most_event_lines};
 ghost use Rattle.event_run.specs.Reading.{DidReadAll, Stops};
-ghost use Rattle.event_run.specs.Reached.{Reached, HasReachedSome, Enters, Leads, IsLess};
+ghost use Rattle.event_run.specs.Reached.{Reached, HasReachedSome, Leads, IsLess};
 
 use crate::run::Run;
-use crate::taken::LineStop;
 use history_rules::{lines_of_limit, run_of_parts};
 use line_text::lines_from_parts;
 use outage_engine::Engine;
-use outage_ports::{Shelf, Sink, put_all};
+use outage_ports::{PIECE, Shelf, Sink};
 use std::alloc::Global;
 
 /// Why a run over events stopped before their end.
@@ -37,32 +37,8 @@ pub(crate) enum Progress {
     Ended,
 }
 
-const PIECE: usize = 65_536;
-
 /// The greatest number of bytes of the events.
 const MOST_EVENTS: usize = 1_073_741_824;
-
-// Writes the entries that are kept, but for those of a line for which memory ran out.
-fn put_entries<K: Sink>(
-    out: &mut K,
-    run: &mut Run,
-    taken: Result<(), LineStop>,
-) -> Result<(), EventsStop>
-    ensures entered { Enters (K.written out.old) (K.written out.new) run.old run.new taken result }
-    ensures faults { TellsFaults (K.faults out.old) (K.faults out.new) (IsErrOf result EventsStop.WriteFailed) }
-{
-    if taken == Err(LineStop::Memory) {
-        return Err(EventsStop::Memory);
-    }
-    if put_all(out, &run.taken.entries).is_err() {
-        return Err(EventsStop::WriteFailed);
-    }
-    run.taken.entries.clear();
-    match taken {
-        Ok(()) => Ok(()),
-        Err(_) => Err(EventsStop::TooManyLines),
-    }
-}
 
 // Reads one more piece, of which so many bytes may be taken, and writes the entries of the lines that
 // end in it.
@@ -96,12 +72,10 @@ fn read_more<S: Shelf, K: Sink>(
         Err(_) => return Err(EventsStop::ReadFailed),
     };
     if count == 0 {
-        let last = run.end(alloc, engine);
-        put_entries(out, run, last)?;
+        run.end(alloc, engine, out)?;
         return Ok(Progress::Ended);
     }
-    let taken = run.take_piece(alloc, engine, &piece[..count.min(room)]);
-    put_entries(out, run, taken)?;
+    run.take_piece(alloc, engine, &piece[..count.min(room)], out)?;
     if count > room {
         return Err(EventsStop::TooManyBytes);
     }
@@ -109,22 +83,26 @@ fn read_more<S: Shelf, K: Sink>(
 }
 
 /// How many event lines of a file were refused: reads it piece by piece, applies or refuses each
-/// event, and writes the entries of the lines that end in a piece before the next is read.
+/// event, and writes the entries of the lines that end in a piece before the next is read. At once,
+/// the entries of each line are written and handed on before the next line is taken.
 pub fn run_events<S: Shelf, K: Sink>(
     alloc: Global,
     shelf: &mut S,
     name: &str,
     engine: &mut Engine,
     out: &mut K,
+    at_once: bool,
 ) -> Result<u64, EventsStop>
     requires allowed { S.allows name.now }
     requires engine { IsEngineAfter [] engine.old }
     ensures files { S.files shelf.new ≡ S.files shelf.old }
     ensures grid { engine.new.grid ≡ engine.old.grid }
     ensures engine { IsEngine engine.new }
-    ensures few { IfOk result (λ _. engine.new.field.applied ≤ 2_000_000) }
-    ensures all { IfOk result (DidReadAll (S.files shelf.old) name.now (S.left shelf.new) (K.written out.old) (K.written out.new) engine.old.grid engine.new) }
-    ensures stopped { IfErr result (Stops (S.files shelf.old) name.now (K.written out.old) (K.written out.new) engine.old.grid) }
+    ensures few { IfOk result (λ _. engine.new.field.applied ≤ most_event_lines) }
+    ensures all { IfOk result (DidReadAll (S.files shelf.old) name.now (S.left shelf.new)
+        (K.written out.old) (K.written out.new) engine.old.grid engine.new) }
+    ensures stopped { IfErr result (Stops (S.files shelf.old) name.now (S.left shelf.old)
+        (S.left shelf.new) (K.written out.old) (K.written out.new) engine.old.grid) }
     ensures shelf { TellsFaults (S.faults shelf.old) (S.faults shelf.new) (IsErrOf result EventsStop.ReadFailed) }
     ensures out { TellsFaults (K.faults out.old) (K.faults out.new) (IsErrOf result EventsStop.WriteFailed) }
 {
@@ -132,7 +110,7 @@ pub fn run_events<S: Shelf, K: Sink>(
     if shelf.start(name).is_err() {
         return Err(EventsStop::ReadFailed);
     }
-    let mut run = Run::new(alloc);
+    let mut run = Run::new(alloc, at_once);
     let mut piece = [0; PIECE];
     let mut room = MOST_EVENTS;
     'reads: loop {

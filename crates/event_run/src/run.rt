@@ -1,13 +1,15 @@
 //! A run over the bytes of an event text.
-ghost use Rattle.std.specs.Prelude.{◌≡◌, ◌≤◌, ◌+◌, ◌++◌, [], ℕ, List, length, OnOk, IsErrOf};
+ghost use Rattle.std.specs.Prelude.{◌≡◌, ◌≤◌, ◌+◌, ◌++◌, [], ℕ, List, Option, length, IsErrOf};
 ghost use Rattle.event_rules.specs.Lines.{lines};
-ghost use Rattle.line_text.specs.Cutting.{ended_from};
 ghost use Rattle.outage_engine.specs.Engined.{Engined, IsEngineAfter, IsEngine};
-ghost use Rattle.event_run.specs.Pieces.{HasTaken, HasRead, HasReadSome, HasMet};
+ghost use Rattle.run_rules.specs.Faults.{TellsFaults};
+ghost use Rattle.event_run.specs.Pieces.{HasRead, HasReadSome, LeadsAmong, LeadsTo};
 
-use crate::taken::{LineStop, Taken};
+use crate::reading::EventsStop;
+use crate::taken::Taken;
 use line_text::{LineBlock, LineCutter, lines_from_parts};
 use outage_engine::Engine;
+use outage_ports::Sink;
 use std::alloc::Global;
 
 /// What is kept of an event text: the part behind its last LF, and what was taken before it. The
@@ -17,52 +19,69 @@ pub(crate) struct Run {
     pub(crate) cutter: LineCutter,
     pub(crate) block: LineBlock,
     pub(crate) taken: Taken,
+    /// Whether the entries of each line are written and handed on before the next is taken.
+    pub(crate) at_once: bool,
 }
 
 impl Run {
     /// A run before the first byte.
-    pub(crate) fn new(alloc: Global) -> Run
-        ensures { (e : Engined) → IsEngineAfter [] e → HasRead [] [] result e }
+    pub(crate) fn new(alloc: Global, at_once: bool) -> Run
+        ensures { (now : Option (List ℕ)) (e : Engined) → IsEngineAfter [] e → HasRead [] now now e.grid result e }
     {
         Run {
             cutter: LineCutter::new(),
             block: LineBlock::new(alloc),
             taken: Taken::new(alloc),
+            at_once,
         }
     }
 
-    /// Takes the next bytes, of at most 1,073,741,824 in all. It stops before a line that is one
-    /// more than may count.
-    pub(crate) fn take_piece(
+    /// Takes the next bytes, of at most 1,073,741,824 in all, and writes the entries of the lines
+    /// that end in them. It stops before a line that is one more than may count.
+    pub(crate) fn take_piece<K: Sink>(
         &mut self,
         alloc: Global,
         engine: &mut Engine,
         piece: &[u8],
-    ) -> Result<(), LineStop>
-        requires read { HasReadSome self.old engine.old }
+        out: &mut K,
+    ) -> Result<(), EventsStop>
+        requires read { HasReadSome (K.written out.old) self.old engine.old }
         requires room { self.old.taken.number + length piece.now ≤ 1_073_741_824 }
-        ensures read { OnOk result ((bytes written : List ℕ) → HasRead bytes written self.old engine.old → HasRead (bytes ++ piece.now) written self.new engine.new) }
-        ensures met { IsErrOf result LineStop.TooMany → (bytes written : List ℕ) → HasRead bytes written self.old engine.old → HasMet (ended_from [] (bytes ++ piece.now)) written self.new.taken engine.old.grid }
+        ensures leads { (bytes : List ℕ) (before : Option (List ℕ)) → HasRead bytes before (K.written out.old) engine.old.grid self.old engine.old
+            → LeadsTo (bytes ++ piece.now) before (K.written out.new) engine.old.grid self.new engine.new result }
         ensures grid { engine.new.grid ≡ engine.old.grid }
         ensures engine { IsEngine engine.new }
+        ensures faults { TellsFaults (K.faults out.old) (K.faults out.new) (IsErrOf result EventsStop.WriteFailed) }
     {
         self.block.clear();
-        self.block.take_piece(&mut self.cutter, piece)?;
-        self.taken.take_lines(engine, &mut self.block.reader(alloc))
+        if self.block.take_piece(&mut self.cutter, piece).is_err() {
+            return Err(EventsStop::Memory);
+        }
+        let mut lines = self.block.reader(alloc);
+        self.taken.take_lines(engine, &mut lines, out, self.at_once)
     }
 
-    /// Takes the end of the text, with which a last line may end.
-    pub(crate) fn end(&mut self, alloc: Global, engine: &mut Engine) -> Result<(), LineStop>
-        requires read { HasReadSome self.old engine.old }
+    /// Takes the end of the text, with which a last line may end, and writes its entries.
+    pub(crate) fn end<K: Sink>(
+        &mut self,
+        alloc: Global,
+        engine: &mut Engine,
+        out: &mut K,
+    ) -> Result<(), EventsStop>
+        requires read { HasReadSome (K.written out.old) self.old engine.old }
         requires room { self.old.taken.number ≤ 1_073_741_824 }
-        ensures taken { OnOk result ((bytes written : List ℕ) → HasRead bytes written self.old engine.old → HasTaken (lines bytes) written self.new.taken engine.new) }
-        ensures met { IsErrOf result LineStop.TooMany → (bytes written : List ℕ) → HasRead bytes written self.old engine.old → HasMet (lines bytes) written self.new.taken engine.old.grid }
+        ensures leads { (bytes : List ℕ) (before : Option (List ℕ)) → HasRead bytes before (K.written out.old) engine.old.grid self.old engine.old
+            → LeadsAmong (lines bytes) before (K.written out.new) engine.old.grid self.new.taken engine.new result }
         ensures grid { engine.new.grid ≡ engine.old.grid }
         ensures engine { IsEngine engine.new }
+        ensures faults { TellsFaults (K.faults out.old) (K.faults out.new) (IsErrOf result EventsStop.WriteFailed) }
     {
         lines_from_parts();
         self.block.clear();
-        self.block.take_end(&mut self.cutter)?;
-        self.taken.take_lines(engine, &mut self.block.reader(alloc))
+        if self.block.take_end(&mut self.cutter).is_err() {
+            return Err(EventsStop::Memory);
+        }
+        let mut lines = self.block.reader(alloc);
+        self.taken.take_lines(engine, &mut lines, out, self.at_once)
     }
 }

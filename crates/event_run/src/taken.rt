@@ -1,5 +1,5 @@
 //! The lines that a run has taken.
-ghost use Rattle.std.specs.Prelude.{◌≡◌, ◌≢◌, ◌≤◌, ◌<◌, ◌+◌, ◌^◌, ◌++◌, ◌∷◌, [], ℕ, List, length, map, Ok, Err, OnOk, IsErrOf};
+ghost use Rattle.std.specs.Prelude.{◌≡◌, ◌≢◌, ◌≤◌, ◌<◌, ◌+◌, ◌^◌, ◌++◌, ◌∷◌, [], ℕ, List, Option, length, map, Ok, Err, OnOk, IsErrOf};
 ghost use Rattle.grid_model.specs.declared.history.Event.{Event};
 ghost use Rattle.line_text.specs.BlockReading.{AreLeft};
 ghost use Rattle.event_reader.specs.Reading.{IsReading};
@@ -12,15 +12,21 @@ ghost use Rattle.diagnosis.specs.Judgement.{differences};
 ghost use Rattle.outage_engine.specs.declared.Applied.{Applied};
 ghost use Rattle.outage_engine.specs.Engined.{Engined, IsEngineAfter, IsEngine, answer_by};
 ghost use Rattle.report_text.specs.Entered.{rule_of};
-ghost use Rattle.event_run.specs.Pieces.{HasTaken, HasTakenSome, IsOneTooMany, HasMet};
+ghost use Rattle.run_rules.specs.Faults.{TellsFaults};
+ghost use Rattle.run_rules.specs.Files.{most_event_lines};
+ghost use Rattle.history_rules.specs.StampTexts.{last_second};
+ghost use Rattle.event_run.specs.Pieces.{HasTaken, HasTakenSome, HasWritten, HasWrittenSome, HasPut, IsOneTooMany, Enters, LeadsNext, LeadsAmong};
 
+use crate::kept::Kept;
+use crate::reading::EventsStop;
 use crate::unread::rule_in;
 use event_reader::{ReadRefusal, next_event};
 use grid_model::{Event, Refusal};
 use history_rules::{refused_are_the_rest, run_of_parts};
 use line_text::BlockReader;
 use outage_engine::{Applied, Engine};
-use report_text::{LineRule, put_changes, put_refused};
+use outage_ports::{Sink, put_all};
+use report_text::{LineRule, PutFault, applied_is_last_change, put_changes, put_refused};
 use std::alloc::{AllocError, Global};
 use std::marker::Brand;
 use std::sync::ledger::{Blank, Ledger};
@@ -49,12 +55,24 @@ impl From<AllocError> for LineStop {
     }
 }
 
+// What is kept in memory fails for want of it alone.
+impl From<PutFault> for LineStop {
+    ghost use Rattle.std.specs.Prelude.{◌≡◌};
+    ghost use Rattle.event_run.specs.declared.taken.LineStop.TheVariants.{Memory};
+
+    ghost from_gives = { λ _ stop. stop ≡ Memory };
+
+    fn from(_: PutFault) -> LineStop {
+        LineStop::Memory
+    }
+}
+
 /// The number of lines so far, of those that aren't skipped, and the entries that aren't written yet.
 #[derive(Drop)]
 pub(crate) struct Taken {
     pub(crate) number: u32,
     pub(crate) counted: u32,
-    pub(crate) entries: Vec<u8>,
+    pub(crate) entries: Kept,
 }
 
 // Applies an event with a counter of its own.
@@ -66,9 +84,8 @@ fn apply_event<L: Ledger>(
     requires name { blank.name ≡ L.name }
     requires parts { blank.parts ≡ L.parts }
     requires some { 0 < blank.parts }
-    requires engine { IsEngine engine.old }
     requires of_grid { IsOfGrid engine.old.grid event.what }
-    requires range { event.time.0 ≤ 253_402_300_799 }
+    requires range { event.time.0 ≤ last_second }
     requires room { engine.old.field.applied < 2 ^ 32 }
     requires spare { length engine.old.grid.meters ≤ engine.old.ledger.spare }
     ensures grid { engine.new.grid ≡ engine.old.grid }
@@ -86,12 +103,12 @@ impl Taken {
     pub(crate) fn new(alloc: Global) -> Taken
         ensures number { result.number ≡ 0 }
         ensures counted { result.counted ≡ 0 }
-        ensures entries { result.entries.items ≡ [] }
+        ensures entries { result.entries.bytes.items ≡ [] }
     {
         Taken {
             number: 0,
             counted: 0,
-            entries: Vec::new(alloc),
+            entries: Kept::new(alloc),
         }
     }
 
@@ -110,9 +127,9 @@ impl Taken {
         requires room { self.old.number < 4_294_967_295 }
         ensures number { OnOk result (self.new.number ≡ self.old.number + 1) }
         ensures counted { OnOk result (self.new.counted ≡ self.old.counted + 1) }
-        ensures few { OnOk result (self.new.counted ≤ 2_000_000) }
+        ensures few { OnOk result (self.new.counted ≤ most_event_lines) }
         ensures same { OnOk result (self.new.entries ≡ self.old.entries) }
-        ensures many { IsErrOf result LineStop.TooMany → 2_000_000 ≤ self.old.counted }
+        ensures many { IsErrOf result LineStop.TooMany → most_event_lines ≤ self.old.counted }
         ensures kept { IsErrOf result LineStop.TooMany → self.new ≡ self.old }
         ensures no_memory { IsErrOf result LineStop.Memory → ⊥ }
     {
@@ -129,9 +146,9 @@ impl Taken {
         requires room { self.old.number < 4_294_967_295 }
         ensures number { OnOk result (self.new.number ≡ self.old.number + 1) }
         ensures counted { OnOk result (self.new.counted ≡ self.old.counted + 1) }
-        ensures few { OnOk result (self.new.counted ≤ 2_000_000) }
-        ensures printed { OnOk result (self.new.entries.items ≡ self.old.entries.items ++ refused_row (self.old.number + 1) (rule_of rule)) }
-        ensures many { IsErrOf result LineStop.TooMany → 2_000_000 ≤ self.old.counted }
+        ensures few { OnOk result (self.new.counted ≤ most_event_lines) }
+        ensures printed { OnOk result (self.new.entries.bytes.items ≡ self.old.entries.bytes.items ++ refused_row (self.old.number + 1) (rule_of rule)) }
+        ensures many { IsErrOf result LineStop.TooMany → most_event_lines ≤ self.old.counted }
         ensures kept { IsErrOf result LineStop.TooMany → self.new ≡ self.old }
     {
         self.count()?;
@@ -143,27 +160,27 @@ impl Taken {
     fn take_event(&mut self, engine: &mut Engine, event: Event) -> Result<(), LineStop>
         requires engine { IsEngine engine.old }
         requires of_grid { IsOfGrid engine.old.grid event.what }
-        requires range { event.time.0 ≤ 253_402_300_799 }
+        requires range { event.time.0 ≤ last_second }
         requires applied { engine.old.field.applied < 2_000_001 }
         requires room { self.old.number < 4_294_967_295 }
         ensures number { OnOk result (self.new.number ≡ self.old.number + 1) }
         ensures counted { OnOk result (self.new.counted ≡ self.old.counted + 1) }
-        ensures few { OnOk result (self.new.counted ≤ 2_000_000) }
+        ensures few { OnOk result (self.new.counted ≤ most_event_lines) }
         ensures printed { OnOk result ((h : List Event) → IsEngineAfter h engine.old →
-            self.new.entries.items ≡ self.old.entries.items ++ entry engine.old.grid (self.old.number + 1) h (outcome_by event (refusal_of engine.old.grid h event))) }
+            self.new.entries.bytes.items ≡ self.old.entries.bytes.items ++ entry engine.old.grid (self.old.number + 1) h (outcome_by event (refusal_of engine.old.grid h event))) }
         ensures after { OnOk result ((h : List Event) → IsEngineAfter h engine.old → IsEngineAfter (joined engine.old.grid h event) engine.new) }
         ensures grid { engine.new.grid ≡ engine.old.grid }
         ensures engine { IsEngine engine.new }
-        ensures many { IsErrOf result LineStop.TooMany → 2_000_000 ≤ self.old.counted }
+        ensures many { IsErrOf result LineStop.TooMany → most_event_lines ≤ self.old.counted }
         ensures kept { IsErrOf result LineStop.TooMany → self.new ≡ self.old }
     {
+        applied_is_last_change();
         self.count()?;
         let number = self.number;
         engine.reserve()?;
         match apply_event::<Brand>(engine, event, Blank::new(1)) {
             Ok(applied) => {
-                let (grid, judged) = (engine.grid(), engine.judged());
-                put_changes(&mut self.entries, number, grid, judged, applied)?;
+                put_changes(&mut self.entries, engine, number, applied)?;
                 Ok(())
             }
             Err(rule) => {
@@ -210,22 +227,80 @@ impl Taken {
         }
     }
 
-    /// Takes the lines of a block. It stops before one that is one more than may count.
-    pub(crate) fn take_lines(
+    // Writes the entries that are kept, but for those of a line for which memory ran out. At once,
+    // they are handed on too.
+    fn put_entries<K: Sink>(
+        &mut self,
+        out: &mut K,
+        answer: Result<(), LineStop>,
+        at_once: bool,
+    ) -> Result<(), EventsStop>
+        ensures entered { Enters (K.written out.old) (K.written out.new) self.old self.new answer result }
+        ensures faults { TellsFaults (K.faults out.old) (K.faults out.new) (IsErrOf result EventsStop.WriteFailed) }
+    {
+        if answer == Err(LineStop::Memory) {
+            return Err(EventsStop::Memory);
+        }
+        if put_all(out, &self.entries.bytes).is_err() {
+            return Err(EventsStop::WriteFailed);
+        }
+        if at_once && !self.entries.bytes.is_empty() && out.flush().is_err() {
+            return Err(EventsStop::WriteFailed);
+        }
+        self.entries.clear();
+        match answer {
+            Ok(()) => Ok(()),
+            Err(_) => Err(EventsStop::TooManyLines),
+        }
+    }
+
+    // Takes what was read of a line, and at once writes its entries. Where it stops at the line, it
+    // writes those that are kept.
+    fn take_next<K: Sink>(
+        &mut self,
+        engine: &mut Engine,
+        read: Result<Option<Event>, ReadRefusal>,
+        out: &mut K,
+        at_once: bool,
+    ) -> Result<(), EventsStop>
+        requires taken { HasTakenSome self.old engine.old }
+        requires read { (line : List ℕ) × IsReading engine.old.grid line read }
+        requires room { self.old.number < 4_294_967_295 }
+        ensures leads { (lines : List (List ℕ)) (line : List ℕ) (before : Option (List ℕ)) → IsReading engine.old.grid line read → HasPut lines before (K.written out.old) self.old engine.old
+            → LeadsNext (lines ++ line ∷ []) before (K.written out.new) engine.old.grid self.new engine.new result }
+        ensures memory { OnOk result (read ≢ Err ReadRefusal.Memory) }
+        ensures grid { engine.new.grid ≡ engine.old.grid }
+        ensures engine { IsEngine engine.new }
+        ensures faults { TellsFaults (K.faults out.old) (K.faults out.new) (IsErrOf result EventsStop.WriteFailed) }
+    {
+        let answer = self.take_read(engine, read);
+        if at_once || answer.is_err() {
+            return self.put_entries(out, answer, at_once);
+        }
+        Ok(())
+    }
+
+    /// Takes the lines of a block, and writes their entries: at once those of each line before the
+    /// next is taken, and otherwise all of them together. It stops before a line that is one more
+    /// than may count.
+    pub(crate) fn take_lines<K: Sink>(
         &mut self,
         engine: &mut Engine,
         lines: &mut BlockReader<'_>,
-    ) -> Result<(), LineStop>
-        requires taken { HasTakenSome self.old engine.old }
+        out: &mut K,
+        at_once: bool,
+    ) -> Result<(), EventsStop>
+        requires taken { HasWrittenSome (K.written out.old) self.old engine.old }
         requires left { (all : List (List ℕ)) × AreLeft lines.old all × (self.old.number + length all ≤ 4_294_967_294) }
-        ensures taken { OnOk result ((sofar all : List (List ℕ)) (written : List ℕ) → AreLeft lines.old all → HasTaken sofar written self.old engine.old → HasTaken (sofar ++ all) written self.new engine.new) }
-        ensures met { IsErrOf result LineStop.TooMany → (sofar all : List (List ℕ)) (written : List ℕ) → AreLeft lines.old all → HasTaken sofar written self.old engine.old → HasMet (sofar ++ all) written self.new engine.old.grid }
+        ensures leads { (sofar all : List (List ℕ)) (before : Option (List ℕ)) → AreLeft lines.old all → HasWritten sofar before (K.written out.old) engine.old.grid self.old engine.old
+            → LeadsAmong (sofar ++ all) before (K.written out.new) engine.old.grid self.new engine.new result }
         ensures grid { engine.new.grid ≡ engine.old.grid }
         ensures engine { IsEngine engine.new }
+        ensures faults { TellsFaults (K.faults out.old) (K.faults out.new) (IsErrOf result EventsStop.WriteFailed) }
     {
         'lines: while let Some(read) = next_event(lines, engine.grid()) {
-            self.take_read(engine, read)?;
+            self.take_next(engine, read, out, at_once)?;
         }
-        Ok(())
+        self.put_entries(out, Ok(()), at_once)
     }
 }

@@ -6,6 +6,7 @@ use Rattle.grid_model.specs.declared.history.Stamp.{Stamp}
 use Rattle.grid_model.specs.declared.history.Event.{Event}
 use Rattle.grid_model.specs.declared.history.What.TheVariants as what
 use Rattle.history_rules.specs.Slots.{Slots}
+use Rattle.history_rules.specs.StampTexts.{last_second}
 use Rattle.evidence.specs.Kept.{Kept, sign_what}
 use Rattle.evidence.specs.declared.slot.Slot.{Slot}
 use Rattle.evidence.specs.declared.slot.Signal.{Signal}
@@ -33,8 +34,8 @@ with_settings settings = record { nodes = []; sources = []; devices = []; meters
 
 -- the times that holds are counted from are before the year 10000
 pub record IsPast (s : Slot) : Type 0 where
-  pub signal : IfSome s.signal (λ x. x.time.0 ≤ 253402300799)
-  pub back : IfSome s.back (λ t. t.0 ≤ 253402300799)
+  pub signal : IfSome s.signal (λ x. x.time.0 ≤ last_second)
+  pub back : IfSome s.back (λ t. t.0 ≤ last_second)
 
 -- the eight settings are at most ten millions
 abbrev pub AreModest : List ℕ → Type 0

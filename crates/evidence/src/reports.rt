@@ -51,6 +51,7 @@ impl Evidence {
     ghost use Rattle.grid_model.specs.Parts.{Parts};
     ghost use Rattle.grid_model.specs.declared.history.What.TheVariants as what;
     ghost use Rattle.history_rules.specs.Slots.{slots_after, slots_restored, since_in, came_back_in};
+    ghost use Rattle.history_rules.specs.StampTexts.{last_second};
     ghost use Rattle.evidence.specs.Kept.{no_evidence, kept_of, keeping, stamp_at, sign_what, pull_by, IsEvidenceOf};
     ghost use Rattle.evidence.specs.Slot.{kept_in, IsPast};
 
@@ -90,7 +91,7 @@ impl Evidence {
         requires own { IsEvidenceOf grid.now self.old }
         requires meter { m.0 < length grid.now.meters }
         requires later { (kept_of self.old m.0).at ≤ now.0 }
-        requires range { now.0 ≤ 253_402_300_799 }
+        requires range { now.0 ≤ last_second }
         ensures pull { result ≡ pull_by grid.now m.0 (kept_of self.new m.0) }
         ensures own { IsEvidenceOf grid.now self.new }
         ensures kept { self.new ≡ keeping self.old m.0 (slots_after m.0 (record { time = now; what = what.Call m }) false (kept_of self.old m.0).slots) now.0 }
@@ -105,7 +106,7 @@ impl Evidence {
         requires own { IsEvidenceOf grid.now self.old }
         requires meter { m.0 < length grid.now.meters }
         requires later { (kept_of self.old m.0).at ≤ now.0 }
-        requires range { now.0 ≤ 253_402_300_799 }
+        requires range { now.0 ≤ last_second }
         ensures pull { result ≡ pull_by grid.now m.0 (kept_of self.new m.0) }
         ensures own { IsEvidenceOf grid.now self.new }
         ensures kept { self.new ≡ keeping self.old m.0 (slots_after m.0 (record { time = now; what = sign_what sign m }) false (kept_of self.old m.0).slots) now.0 }
@@ -120,7 +121,7 @@ impl Evidence {
         requires own { IsEvidenceOf grid.now self.old }
         requires meter { m.0 < length grid.now.meters }
         requires later { (kept_of self.old m.0).at ≤ now.0 }
-        requires range { now.0 ≤ 253_402_300_799 }
+        requires range { now.0 ≤ last_second }
         ensures pull { result ≡ pull_by grid.now m.0 (kept_of self.new m.0) }
         ensures own { IsEvidenceOf grid.now self.new }
         ensures kept { self.new ≡ keeping self.old m.0 (slots_restored now.0 (kept_of self.old m.0).slots) now.0 }
@@ -135,7 +136,7 @@ impl Evidence {
         requires own { IsEvidenceOf grid.now self.old }
         requires meter { m.0 < length grid.now.meters }
         requires later { (kept_of self.old m.0).at ≤ now.0 }
-        requires range { now.0 ≤ 253_402_300_799 }
+        requires range { now.0 ≤ last_second }
         ensures pull { result ≡ pull_by grid.now m.0 (kept_of self.new m.0) }
         ensures own { IsEvidenceOf grid.now self.new }
         ensures kept { self.new ≡ keeping self.old m.0 (kept_of self.old m.0).slots now.0 }

@@ -4,6 +4,7 @@ ghost use Rattle.grid_model.specs.Places.{meter_id};
 ghost use Rattle.grid_model.specs.declared.history.What.TheVariants as what;
 ghost use Rattle.history_rules.specs.Evidence.{is_dark_signal_of, is_live_signal_of, weight_of, weight_in, earliest};
 ghost use Rattle.history_rules.specs.Slots.{slots_after, slots_restored, dark_signal_in, live_signal_in, dark_in, live_in, due_in, since_in, came_back_in, is_quiet, end_after, grace_after};
+ghost use Rattle.history_rules.specs.StampTexts.{last_second};
 ghost use Rattle.evidence.specs.Kept.{nothing_kept, pull_by, sign_what, stamp_at};
 ghost use Rattle.evidence.specs.Slot.{slots_in, kept_in, event_in, seconds, with_settings, IsPast, AreModest};
 
@@ -147,7 +148,7 @@ impl Slot {
 
     /// After a signal.
     pub fn signalled(self, sign: Sign, now: Stamp) -> Slot
-        requires range { now.0 ≤ 253_402_300_799 }
+        requires range { now.0 ≤ last_second }
         ensures kept { (m : ℕ) → kept_in m result ≡ record {
           slots = slots_after m (record { time = now; what = sign_what sign (meter_id m) }) false (slots_in m self);
           at = now.0;
@@ -166,7 +167,7 @@ impl Slot {
     /// After a restoration that brings the meter back.
     pub fn restored(self, now: Stamp) -> Slot
         requires past { IsPast self }
-        requires range { now.0 ≤ 253_402_300_799 }
+        requires range { now.0 ≤ last_second }
         ensures kept { (m : ℕ) → kept_in m result ≡ record { slots = slots_restored now.0 (slots_in m self); at = now.0 } }
         ensures past { IsPast result }
     {

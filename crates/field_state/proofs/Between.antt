@@ -11,7 +11,7 @@ use Rattle.grid_model.specs.declared.history.Mark.TheVariants as mark
 use Rattle.history_rules.specs.State.{now, mark_of}
 use Rattle.history_rules.specs.Evidence.{dark_weight, live_weight}
 use Rattle.history_rules.specs.Posed.{at_node}
-use Rattle.history_rules.specs.Slots.{slots_of, due_in, dark_in, live_in}
+use Rattle.history_rules.specs.Slots.{slots_of, due_in, dark_in, live_in, since_in, came_back_in}
 use Rattle.history_rules.specs.Laws.{EvidenceIsKept, WeightsStayUntilDue, HistoryIsTimely}
 use Rattle.evidence.specs.Kept.{kept_of, pull_by, stamp_at}
 use Rattle.evidence.specs.declared.Pull.{Pull}
@@ -19,6 +19,7 @@ use Rattle.field_state.specs.Fielded.{Fielded, IsFieldAfter, mark_due, pull_afte
 use Rattle.field_state.specs.FieldKept.{IsFieldKept, IsFieldAt, dark_kept, live_kept}
 use Rattle.field_state.proofs.Totals.{total_same}
 use Rattle.field_state.proofs.Resting.{not_due, none_or_later, due_stays, mark_stays, mark_beyond}
+use Rattle.field_state.proofs.Reported.{since_stays, came_back_stays}
 
 pub at_node_same : (g : Parts) (v w : ℕ → ℕ) (n : ℕ) → ((m : ℕ) → m < length g.meters → v m ≡ w m) → at_node g v n ≡ at_node g w n
 at_node_same g v w n h =
@@ -54,6 +55,12 @@ module _ (g : Parts) (h : List Event) (f : Fielded) where
       (cases_lt d (length g.devices))
 
   module _ (evidence : EvidenceIsKept) (stay : WeightsStayUntilDue) (timely : HistoryIsTimely) where
+    -- what was kept of a meter's reports is due when it is now
+    same_times : IsFieldAt g h (now h) f → (m : ℕ) → m < length g.meters → due_in g m (kept_of f.evidence m).at (kept_of f.evidence m).slots ≡ due_in g m (now h) (kept_of f.evidence m).slots
+    same_times at m l =
+        let k = kept_of f.evidence m in
+        due_stays g m k.at (now h) k.slots (at.kept.earlier m l) (not_due f.due (now h) m (due_in g m k.at k.slots) at.at_rest (at.kept.due_meters m l))
+
     pull_now : IsFieldAt g h (now h) f → (m : ℕ) → m < length g.meters → pull_by g m (kept_of f.evidence m) ≡ pull_after g h m
     pull_now at m l =
         let k = kept_of f.evidence m in
@@ -81,6 +88,14 @@ module _ (g : Parts) (h : List Event) (f : Fielded) where
       slots = at.kept.slots;
       earlier = at.kept.earlier;
       pulls = pull_now at;
+      since = λ m l.
+          since_stays g m (kept_of f.evidence m).at (now h) (kept_of f.evidence m).slots (same_times at m l)
+          ∙ ap (since_in g m (now h)) (at.kept.slots m l)
+          ∙ sym (evidence g m h (timely g h at.kept.history)).since;
+      came_back = λ m l.
+          came_back_stays g m (kept_of f.evidence m).at (now h) (kept_of f.evidence m).slots (same_times at m l)
+          ∙ ap (came_back_in g m (now h)) (at.kept.slots m l)
+          ∙ sym (evidence g m h (timely g h at.kept.history)).came_back;
       dark_each = at.kept.dark_each;
       dark = λ n. at.kept.dark n ∙ at_node_same g (dark_kept g f.evidence) (dark_weight g h) n (λ m l. ap (λ p. p.dark) (pull_now at m l));
       live_each = at.kept.live_each;

@@ -13,6 +13,7 @@ pub mod Naming
 pub mod Noting
 pub mod Passing
 pub mod Posing
+pub mod Reported
 pub mod Reporting
 pub mod Resting
 pub mod Restoring

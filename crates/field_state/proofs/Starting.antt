@@ -10,6 +10,7 @@ use Rattle.grid_model.specs.declared.history.Mark.TheVariants as mark
 use Rattle.grid_model.specs.Problem.{mark_at}
 use Rattle.subtree_costs.specs.Costed.{IsCosted}
 use Rattle.history_rules.specs.Posed.{at_node}
+use Rattle.history_rules.specs.Slots.{since_in, came_back_in}
 use Rattle.evidence.specs.Kept.{kept_of, no_evidence, nothing_kept, pull_by}
 use Rattle.field_state.specs.Fielded.{Fielded, IsFieldAfter}
 use Rattle.field_state.proofs.Totals.{total_zero}
@@ -66,6 +67,8 @@ module _ (g : Parts) (f : Fielded) (start : IsNew g f) where
     slots = λ m l. ap (λ k. k.slots) (kept_none m);
     earlier = λ m l. let e = ap (λ k. k.at) (kept_none m) in omega arith;
     pulls = λ m l. ap (pull_by g m) (kept_none m);
+    since = λ m l. ap (λ k. since_in g m k.at k.slots) (kept_none m);
+    came_back = λ m l. ap (λ k. came_back_in g m k.at k.slots) (kept_none m);
     dark_each = start.costed.posed.dark_each;
     dark = λ n. ap (λ weights. slice_index weights n) start.dark ∙ copied (length g.nodes) n 0 ∙ sym (nothing_at_node g n);
     live_each = start.costed.posed.live_each;

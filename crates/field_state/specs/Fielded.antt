@@ -15,11 +15,11 @@ use Rattle.grid_model.specs.declared.history.What.TheVariants.{Confirm, Restore,
 use Rattle.grid_model.specs.declared.history.Confirmed.TheVariants as confirmed
 use Rattle.grid_model.specs.declared.history.Refusal.{Refusal}
 use Rattle.radial_forest.specs.Forested.{IsForestOf}
-use Rattle.subtree_costs.specs.Costed.{Costed, IsCosted}
+use Rattle.subtree_costs.specs.Costed.{Costed, IsCosted, most_reported}
 use Rattle.history_rules.specs.State.{now, is_closed, mark_of}
-use Rattle.history_rules.specs.Evidence.{dark_weight, live_weight}
+use Rattle.history_rules.specs.Evidence.{dark_weight, live_weight, dark_since, came_back}
 use Rattle.history_rules.specs.Posed.{at_node, problem_after, IsHistory}
-use Rattle.history_rules.specs.Slots.{slots_of, end_after, due_in}
+use Rattle.history_rules.specs.Slots.{slots_of, end_after, due_in, since_in, came_back_in}
 use Rattle.evidence.specs.Kept.{Evident, IsEvidenceOf, kept_of, pull_by, stamp_at}
 use Rattle.evidence.specs.declared.Pull.{Pull}
 
@@ -71,6 +71,8 @@ pub record IsFieldAfter (g : Parts) (h : List Event) (f : Fielded) : Type 0 wher
   pub slots : (m : ℕ) → m < length g.meters → (kept_of f.evidence m).slots ≡ slots_of g m h
   pub earlier : (m : ℕ) → m < length g.meters → (kept_of f.evidence m).at ≤ now h
   pub pulls : (m : ℕ) → m < length g.meters → pull_by g m (kept_of f.evidence m) ≡ pull_after g h m
+  pub since : (m : ℕ) → m < length g.meters → since_in g m (kept_of f.evidence m).at (kept_of f.evidence m).slots ≡ dark_since g h m
+  pub came_back : (m : ℕ) → m < length g.meters → came_back_in g m (kept_of f.evidence m).at (kept_of f.evidence m).slots ≡ came_back g h m
   pub dark_each : length f.dark ≡ length g.nodes
   pub dark : (n : ℕ) → slice_index f.dark n ≡ at_node g (dark_weight g h) n
   pub live_each : length f.live ≡ length g.nodes
@@ -94,8 +96,8 @@ pub record PosesAfter (g : Parts) (h : List Event) (f : Fielded) : Type 0 where
   pub radial : IsRadial (network_in g (λ d. slice_index_or f.forest.closed d false))
   pub states_each : length f.forest.closed ≡ length g.devices
   pub marked : (d : ℕ) → problem.says_opened (problem.mark_at f.marks d) ≡ true → slice_index_or f.forest.closed d false ≡ true
-  pub dark_bound : sum f.dark ≤ 1000000000000
-  pub live_bound : sum f.live ≤ 1000000000000
+  pub dark_bound : sum f.dark ≤ most_reported
+  pub live_bound : sum f.live ≤ most_reported
   pub posed_well : IsSound (problem_after g h)
   pub whole_bound : whole_weight (problem_after g h) ≤ 1000000000000000
 

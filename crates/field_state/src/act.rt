@@ -21,6 +21,7 @@ impl State {
     ghost use Rattle.grid_model.specs.declared.history.Mark.TheVariants.{Nothing};
     ghost use Rattle.subtree_costs.specs.Costed.{IsCosted};
     ghost use Rattle.history_rules.specs.Slots.{end_after};
+    ghost use Rattle.history_rules.specs.StampTexts.{last_second};
     ghost use Rattle.grid_model.specs.Network.{network_in};
     ghost use Rattle.grid_model.specs.declared.history.What.TheVariants as what;
     ghost use Rattle.grid_model.specs.declared.history.Want.TheVariants as wanted;
@@ -37,7 +38,7 @@ impl State {
     fn call<L: Ledger>(&mut self, grid: &Grid, m: MeterId, now: Stamp, steps: &mut Steps<L>)
         requires ready { IsReady grid.now now.0 self.old }
         requires meter { m.0 < length grid.now.meters }
-        requires range { now.0 ≤ 253_402_300_799 }
+        requires range { now.0 ≤ last_second }
         ensures done { IsDone grid.now (record { time = now; what = what.Call m }) self.old self.new }
         ensures steps { (reach : ℕ → ℕ) → AreReaches grid.now self.old.forest.closed reach
             → spent grid.now self.new steps.new ≤ spent grid.now self.old steps.old + 6 * meter_length grid.now reach m.0 }
@@ -58,7 +59,7 @@ impl State {
     )
         requires ready { IsReady grid.now now.0 self.old }
         requires meter { m.0 < length grid.now.meters }
-        requires range { now.0 ≤ 253_402_300_799 }
+        requires range { now.0 ≤ last_second }
         ensures done { IsDone grid.now (record { time = now; what = sign_what sign m }) self.old self.new }
         ensures steps { (reach : ℕ → ℕ) → AreReaches grid.now self.old.forest.closed reach
             → spent grid.now self.new steps.new ≤ spent grid.now self.old steps.old + 6 * meter_length grid.now reach m.0 }
@@ -78,7 +79,7 @@ impl State {
     )
         requires ready { IsReady grid.now now.0 self.old }
         requires meter { m.0 < length grid.now.meters }
-        requires range { now.0 ≤ 253_402_300_799 }
+        requires range { now.0 ≤ last_second }
         ensures kept { IsKeptBy grid.now now.0 (λ k. restored_if (k == m.0) now.0 (kept_of self.old.evidence k)) self.old self.new }
         ensures steps { (reach : ℕ → ℕ) → AreReaches grid.now self.old.forest.closed reach
             → spent grid.now self.new steps.new ≤ spent grid.now self.old steps.old + restores_cost grid.now now.0 reach self.old.evidence (λ k. k == m.0) }
@@ -92,7 +93,7 @@ impl State {
     fn restore_node<L: Ledger>(&mut self, grid: &Grid, n: NodeId, now: Stamp, steps: &mut Steps<L>)
         requires ready { IsReady grid.now now.0 self.old }
         requires node { n.0 < length grid.now.nodes }
-        requires range { now.0 ≤ 253_402_300_799 }
+        requires range { now.0 ≤ last_second }
         ensures kept { IsKeptBy grid.now now.0 (λ k. restored_if (node_of grid.now k == n.0) now.0 (kept_of self.old.evidence k)) self.old self.new }
         ensures steps { (reach : ℕ → ℕ) → AreReaches grid.now self.old.forest.closed reach
             → spent grid.now self.new steps.new ≤ spent grid.now self.old steps.old + restores_cost grid.now now.0 reach self.old.evidence (λ k. node_of grid.now k == n.0) }
@@ -112,7 +113,7 @@ impl State {
     )
         requires ready { IsReady grid.now now.0 self.old }
         requires nodes { (i : ℕ) → i < length nodes.now → node_at nodes.now i < length grid.now.nodes }
-        requires range { now.0 ≤ 253_402_300_799 }
+        requires range { now.0 ≤ last_second }
         ensures kept { IsKeptBy grid.now now.0
             (λ k. restored_if (is_listed nodes.now (length nodes.now) (node_of grid.now k)
             && is_fed (network_in grid.now (λ e. slice_index_or self.old.forest.closed e false)) (node_of grid.now k)) now.0 (kept_of self.old.evidence k)) self.old self.new }
@@ -133,7 +134,7 @@ impl State {
         requires device { d.0 < length grid.now.devices }
         requires closed { slice_index_or self.old.forest.closed d.0 false ≡ true }
         requires due { length self.old.due ≡ length grid.now.meters + length grid.now.devices }
-        requires range { now.0 ≤ 253_402_300_799 }
+        requires range { now.0 ≤ last_second }
         ensures marked { IsMarkedBy grid.now d.0 (fine_while (nat_lt now.0 (now.0 + setting_of grid.now OkHold)))
             (end_after now.0 (now.0 + setting_of grid.now OkHold)) self.old self.new }
         ensures steps { (reach : ℕ → ℕ) → AreReaches grid.now self.old.forest.closed reach
@@ -159,7 +160,7 @@ impl State {
         requires ready { IsReady grid.now now.0 self.old }
         requires device { d.0 < length grid.now.devices }
         requires closed { slice_index_or self.old.forest.closed d.0 false ≡ true }
-        requires range { now.0 ≤ 253_402_300_799 }
+        requires range { now.0 ≤ last_second }
         ensures done { IsDone grid.now (record { time = now; what = what.Confirm d said }) self.old self.new }
         ensures steps { (reach : ℕ → ℕ) → AreReaches grid.now self.old.forest.closed reach
             → spent grid.now self.new steps.new ≤ spent grid.now self.old steps.old + 6 * device_length grid.now reach d.0 }
@@ -184,7 +185,7 @@ impl State {
         requires device { d.0 < length grid.now.devices }
         requires closed { slice_index_or self.old.forest.closed d.0 false ≡ true }
         requires room { length room.old ≡ length grid.now.nodes }
-        requires range { now.0 ≤ 253_402_300_799 }
+        requires range { now.0 ≤ last_second }
         ensures kept { IsKeptBy grid.now now.0 (λ k. restored_if (is_brought grid.now self.old.forest.closed k (what.Restore d)) now.0 (kept_of self.old.evidence k)) self.old self.new }
         ensures steps { (reach : ℕ → ℕ) → AreReaches grid.now self.old.forest.closed reach
             → spent grid.now self.new steps.new ≤ spent grid.now self.old steps.old + restores_cost grid.now now.0 reach self.old.evidence (λ k. is_brought grid.now self.old.forest.closed k (what.Restore d)) }
@@ -206,7 +207,7 @@ impl State {
         requires device { d.0 < length grid.now.devices }
         requires closed { slice_index_or self.old.forest.closed d.0 false ≡ true }
         requires room { length room.old ≡ length grid.now.nodes }
-        requires range { now.0 ≤ 253_402_300_799 }
+        requires range { now.0 ≤ last_second }
         ensures done { IsDone grid.now (record { time = now; what = what.Restore d }) self.old self.new }
         ensures steps { (reach : ℕ → ℕ) → AreReaches grid.now self.old.forest.closed reach
             → spent grid.now self.new steps.new ≤ spent grid.now self.old steps.old + (restores_cost grid.now now.0 reach self.old.evidence (λ k. is_brought grid.now self.old.forest.closed k (what.Restore d))
@@ -257,7 +258,7 @@ impl State {
         requires of_grid { IsOfGrid grid.now event.what }
         requires allowed { rule_in grid.now self.old.forest.closed event.what ≡ None }
         requires room { length room.old ≡ length grid.now.nodes }
-        requires range { event.time.0 ≤ 253_402_300_799 }
+        requires range { event.time.0 ≤ last_second }
         ensures done { IsDone grid.now event self.old self.new }
         ensures steps { is_switching event.what ≡ false → (reach : ℕ → ℕ) → AreReaches grid.now self.old.forest.closed reach
             → spent grid.now self.new steps.new ≤ spent grid.now self.old steps.old
@@ -288,7 +289,7 @@ impl State {
         requires at { (h : List Event) × IsFieldAt grid.now h event.time.0 self.old × (refusal_of grid.now h event ≡ None) }
         requires of_grid { IsOfGrid grid.now event.what }
         requires room { length room.old ≡ length grid.now.nodes }
-        requires range { event.time.0 ≤ 253_402_300_799 }
+        requires range { event.time.0 ≤ last_second }
         ensures at { (h : List Event) → IsFieldAt grid.now h event.time.0 self.old → refusal_of grid.now h event ≡ None
             → IsFieldAt grid.now (event ∷ h) event.time.0 self.new }
         ensures same { (self.new.now ≡ self.old.now) × (self.new.applied ≡ self.old.applied) }

@@ -13,6 +13,7 @@ impl State {
     ghost use Rattle.radial_forest.specs.Traversed.{node_at};
     ghost use Rattle.radial_forest.specs.Forested.{IsForestOf};
     ghost use Rattle.history_rules.specs.Posed.{IsOfGrid, refusal_of};
+    ghost use Rattle.history_rules.specs.StampTexts.{last_second};
     ghost use Rattle.field_state.specs.Fielded.{IsField, IsFieldAfter};
     ghost use Rattle.subtree_costs.specs.Walks.{ChangeAtPlaces, ChangeOnWalks, walks_work};
     ghost use Rattle.radial_forest.specs.Spreading.{switched};
@@ -57,7 +58,7 @@ impl State {
     )
         requires field { (h : List Event) × IsFieldAfter grid.now h self.old × (refusal_of grid.now h event ≡ None) }
         requires of_grid { IsOfGrid grid.now event.what }
-        requires range { event.time.0 ≤ 253_402_300_799 }
+        requires range { event.time.0 ≤ last_second }
         requires count { self.old.applied < 2 ^ 32 }
         requires room { length room.old ≡ length grid.now.nodes }
         ensures after { (h : List Event) → IsFieldAfter grid.now h self.old → refusal_of grid.now h event ≡ None
@@ -89,6 +90,7 @@ impl Field {
     ghost use Rattle.grid_model.specs.declared.history.Event.{Event};
     ghost use Rattle.grid_model.specs.declared.history.Refusal.{Refusal};
     ghost use Rattle.history_rules.specs.Posed.{IsOfGrid, refusal_of, joined};
+    ghost use Rattle.history_rules.specs.StampTexts.{last_second};
     ghost use Rattle.radial_forest.specs.Traversed.{node_at};
     ghost use Rattle.subtree_costs.specs.Walks.{ChangeAtPlaces, ChangeOnWalks, walks_work};
     ghost use Rattle.radial_forest.specs.Spreading.{switched};
@@ -108,7 +110,7 @@ impl Field {
     ) -> Result<(), Refusal>
         requires field { IsField grid.now self.old }
         requires of_grid { IsOfGrid grid.now event.what }
-        requires range { event.time.0 ≤ 253_402_300_799 }
+        requires range { event.time.0 ≤ last_second }
         requires room { self.old.applied < 2 ^ 32 }
         ensures answer { (h : List Event) → IsFieldAfter grid.now h self.old → result ≡ answer_by (refusal_of grid.now h event) }
         ensures refused { (rule : Refusal) → result ≡ Err rule → self.new ≡ self.old }

@@ -24,6 +24,7 @@ impl State {
     ghost use Rattle.grid_model.specs.declared.history.Event.{Event};
     ghost use Rattle.due_queue.specs.Due.{IsNothingDue};
     ghost use Rattle.history_rules.specs.Slots.{due_in};
+    ghost use Rattle.history_rules.specs.StampTexts.{last_second};
     ghost use Rattle.evidence.specs.Kept.{kept_of, keeping, pull_by};
     ghost use Rattle.field_state.specs.FieldKept.{IsFieldKept, IsFieldAt};
     ghost use Rattle.grid_model.specs.declared.history.Mark.TheVariants.{Nothing};
@@ -140,7 +141,7 @@ impl State {
         requires costed { IsCosted grid.now self.old.costs }
         requires tallied { IsTalliedBut grid.now t.0 m.0 self.old }
         requires meter { m.0 < length grid.now.meters }
-        requires range { t.0 ≤ 253_402_300_799 }
+        requires range { t.0 ≤ last_second }
         ensures costed { IsCosted grid.now self.new.costs }
         ensures tallied { IsTallied grid.now t.0 self.new }
         ensures kept { self.new.evidence ≡ keeping self.old.evidence m.0 (kept_of self.old.evidence m.0).slots t.0 }
@@ -158,7 +159,7 @@ impl State {
     // Takes one that is due at or before a time, if any is.
     fn take_due<L: Ledger>(&mut self, grid: &Grid, t: Stamp, steps: &mut Steps<L>) -> bool
         requires kept { (h : List Event) × IsFieldKept grid.now h t.0 self.old }
-        requires range { t.0 ≤ 253_402_300_799 }
+        requires range { t.0 ≤ last_second }
         ensures kept { (h : List Event) → IsFieldKept grid.now h t.0 self.old → IsFieldKept grid.now h t.0 self.new }
         ensures fewer { IsTrue result → dues t.0 self.new.due < dues t.0 self.old.due }
         ensures none { result ≡ false → IsNothingDue self.new.due t.0 }
@@ -184,7 +185,7 @@ impl State {
     pub(crate) fn advance<L: Ledger>(&mut self, grid: &Grid, t: Stamp, steps: &mut Steps<L>)
         requires kept { (h : List Event) × IsFieldKept grid.now h self.old.now self.old }
         requires later { self.old.now ≤ t.0 }
-        requires range { t.0 ≤ 253_402_300_799 }
+        requires range { t.0 ≤ last_second }
         ensures at { (h : List Event) → IsFieldKept grid.now h self.old.now self.old → IsFieldAt grid.now h t.0 self.new }
         ensures same { (self.new.now ≡ self.old.now) × (self.new.applied ≡ self.old.applied) × (self.new.forest ≡ self.old.forest) }
         ensures notes { NotesChanges grid.now self.old.costs self.new.costs self.old.places self.new.places }

@@ -3,10 +3,14 @@ use Rattle.std.proofs.Common.{◌≡◌, ℕ, ◌<◌, ◌≤◌, Bool, true, fa
 use Rattle.std.specs.Prelude.{◌↔◌, ◌≢◌, ◌==◌, ◌&&◌, not, nat_lt, nat_le, Option, Some, None, Result, Ok, Err, option_map, ok_or, if◌then◌else◌}
 use Rattle.std.proofs.lemmas.Bool.{false≢true, and_parts, and_from, and_left, or_parts, or_from, not_from_false, eqb-true, eq-eqb, ne_eqb, leb-true, ltb-true, ltb-false, lt-ltb, le-ltb, cond_both, false_from_ne_true}
 use Rattle.std.proofs.lemmas.Option.{none-some}
+use Rattle.std.proofs.lemmas.List.Quantifiers.{position-Some}
+use Rattle.grid_model.specs.Names.{name_eq}
 use Rattle.outage_rules.specs.Loops.{would_loop}
+use Rattle.outage_rules.proofs.Loops.{looped_by_walks}
 use Rattle.grid_model.specs.Parts.{Parts}
+use Rattle.grid_model.specs.Sound.{IsSoundParts}
 use Rattle.grid_model.specs.Name.{is_name}
-use Rattle.grid_model.specs.Places.{device_id}
+use Rattle.grid_model.specs.Places.{no_device, device_id}
 use Rattle.grid_model.specs.declared.history.Event.{Event}
 use Rattle.grid_model.specs.declared.history.Refusal.{Refusal}
 use Rattle.grid_model.specs.declared.history.Refusal.TheVariants.{Backwards, NotClosed, Loop}
@@ -22,10 +26,12 @@ use Rattle.event_rules.specs.Fields.{parts_from, between_commas, has_no_fields}
 use Rattle.event_rules.specs.Stamps.{has_stamp_shape, year_in, two_at, second_since_1970, stamp_of}
 use Rattle.event_rules.specs.EventLines.{AtDevice, named_shape, shape_of, device_named, at_found, event_at, event_of_shape, event_of_fields, event_in, EventReading, IsSkipped, IsEvent, IsRefused, reading_of, event_reading}
 use Rattle.history_rules.specs.State.{now, is_closed, network_after}
-use Rattle.history_rules.specs.Posed.{names_open, loops_by, loops, refusal_of}
+use Rattle.history_rules.specs.Posed.{names_open, loops_by, loops, refusal_of, IsOfGrid}
 use Rattle.history_rules.specs.Run.{Unread, Unapplied, Outcome, Skips, Refuses, Applies, outcome_by, outcome_after, outcome_of, history_by}
-use Rattle.history_rules.specs.RunLaws.{FollowsRules, order_word, IsTimelyOrder, device_of, ClosesLoop, order_at, OrderIsJudged, LinesFollowRules}
-use Rattle.history_rules.proofs.TimelyLemmas.{first_refusal}
+use Rattle.history_rules.specs.RunLaws.{FollowsRules, order_word, IsTimelyOrder, device_of, ClosesLoop, OrdersLoop, order_at, OrderIsJudged, LinesFollowRules}
+use Rattle.history_rules.proofs.TimelyLemmas.{first_refusal, no_rule_fits}
+use Rattle.history_rules.proofs.RadialLemmas.{sound_after}
+use Rattle.history_rules.proofs.RunLemmas.{names_part}
 
 -- what becomes of an event, by which of the rules fit it
 backwards_by : (e : Event) (a b c : Bool) → (outcome_by e (first_refusal a b c) ≡ Refuses (Unapplied Backwards)) ↔ (a ≡ true)
@@ -93,6 +99,32 @@ module _ (g : Parts) (h : List Event) where
   unfolding refusal_of
   none_at e l x y = none_by (nat_lt e.time.0 (now h)) (names_open g h e.what) (loops g h e.what) (le-ltb e.time.0 (now h) l) x y
 
+  open_from : (b : Bool) → not b ≡ true → b ≡ false
+  open_from true e = absurd (false≢true e)
+  open_from false e = refl
+
+  -- an order closes a loop by the test exactly where it does by walks
+  closes : IsSoundParts g → (d : ℕ) → d < length g.devices → (w : Want) → (loops_by g h d w ≡ true) ↔ ClosesLoop g h d w
+  closes sound d l want.Opened = (λ s. absurd (false≢true s), λ c. let e = c.0 in absurd (let x : ⊥ = cc in x))
+  closes sound d l want.Closed =
+      let walks = looped_by_walks (network_after g h) (sound_after g h sound) d l in (
+        λ s. let both = and_parts (not (is_closed g h d)) (would_loop (network_after g h) d) s in (refl, open_from (is_closed g h d) both.0, walks.0 both.1),
+        λ c. and_from (not (is_closed g h d)) (would_loop (network_after g h) d) (not_from_false (is_closed g h d) c.1) (walks.1 c.2),
+      )
+
+  -- and so does an event
+  orders : IsSoundParts g → (w : What) → IsOfGrid g w → (loops g h w ≡ true) ↔ OrdersLoop g h w
+  orders sound (Order x w) l = closes sound x.0 l w
+  orders sound _ l = (λ s. absurd (false≢true s), λ c. absurd c)
+
+  -- an event is applied where no rule fits
+  fits_none : (e : Event) → IsSoundParts g → IsOfGrid g e.what → (refusal_of g h e ≡ None) ↔ ((now h ≤ e.time.0) × (names_open g h e.what ≡ false) × (OrdersLoop g h e.what → ⊥))
+  fits_none e sound l =
+      let by = orders sound e.what l in (
+        λ s. let free = no_rule_fits g h e s in (ltb-false e.time.0 (now h) free.0, free.1, λ c. false≢true (sym free.2 ∙ by.1 c)),
+        λ x. none_at e x.0 x.1 (false_from_ne_true (loops g h e.what) (λ s. x.2 (by.0 s))),
+      )
+
   -- a line is refused by a rule on its event exactly where it is an event that the rule refuses
   by_event : (r : EventReading) (rule : Refusal) (P : Event → Type 0) → ((e : Event) → (outcome_by e (refusal_of g h e) ≡ Refuses (Unapplied rule)) ↔ P e) →
       (outcome_after g h r ≡ Refuses (Unapplied rule)) ↔ ((e : Event) × (r ≡ IsEvent e) × P e)
@@ -139,8 +171,15 @@ module _ (g : Parts) (h : List Event) where
         unread = λ rule. unread_after r rule;
         backwards = by_event r Backwards (λ e. e.time.0 < now h) backwards_at;
         not_closed = (λ s. let x = second.0 s in (x.0, x.1, x.2.0, x.2.1), λ x. second.1 (x.0, x.1, (x.2, x.3)));
-        loop = (λ s. let x = third.0 s in (x.0, x.1, x.2.0, x.2.1), λ x. third.1 (x.0, x.1, (x.2, x.3)));
+        loop = λ sound. (
+          λ s. let x = third.0 s in (x.0, x.1, x.2.0, (orders sound x.0.what (names_part g line x.0 x.1)).0 x.2.1),
+          λ x. third.1 (x.0, x.1, (x.2, (orders sound x.0.what (names_part g line x.0 x.1)).1 x.3)),
+        );
         applied = λ e. applied_after r e;
+        free = λ sound e. (
+          λ s. let x = (applied_after r e).0 s in let free = (fits_none e sound (names_part g line e x.0)).0 x.1 in (x.0, free.0, free.1, free.2),
+          λ x. (applied_after r e).1 (x.0, (fits_none e sound (names_part g line e x.0)).1 (x.1, x.2, x.3)),
+        );
         keeps = λ never. keeps_by (outcome_of g h line) never;
       }
 
@@ -230,31 +269,27 @@ module _ (g : Parts) (h : List Event) (line : List ℕ) (at : ℕ) (name : List 
   at_device : (d : ℕ) → device_of g name ≡ Some d → outcome_of g h line ≡ outcome_by (order_at at d wanted) (refusal_of g h (order_at at d wanted))
   at_device d known = order_outcome ∙ ap (λ o. outcome_after g h (order_reading at wanted o)) known
 
-  closes : (d : ℕ) (w : Want) → (loops_by g h d w ≡ true) ↔ ClosesLoop g h d w
-  closes d want.Opened = (λ s. absurd (false≢true s), λ c. let e = c.0 in absurd (let x : ⊥ = cc in x))
-  closes d want.Closed = (
-    λ s. let both = and_parts (not (is_closed g h d)) (would_loop (network_after g h) d) s in (refl, open_from (is_closed g h d) both.0, both.1),
-    λ c. and_from (not (is_closed g h d)) (would_loop (network_after g h) d) (not_from_false (is_closed g h d) c.1) c.2,
-  )
-    where
-      open_from : (b : Bool) → not b ≡ true → b ≡ false
-      open_from true e = absurd (false≢true e)
-      open_from false e = refl
+  within : (d : ℕ) → device_of g name ≡ Some d → d < length g.devices
+  within d known = (position-Some (λ x. name_eq name x.name) g.devices d no_device known).0
 
-  loops_at : (d : ℕ) → (outcome_by (order_at at d wanted) (refusal_of g h (order_at at d wanted)) ≡ Refuses (Unapplied Loop)) ↔ ClosesLoop g h d wanted
-  loops_at d =
+  loops_at : IsSoundParts g → (d : ℕ) → device_of g name ≡ Some d →
+      (outcome_by (order_at at d wanted) (refusal_of g h (order_at at d wanted)) ≡ Refuses (Unapplied Loop)) ↔ ClosesLoop g h d wanted
+  loops_at sound d known =
       let by = loop_at g h (order_at at d wanted) in
-      (λ s. (closes d wanted).0 (by.0 s).1, λ c. by.1 (order.timely, (closes d wanted).1 c))
+      let walks = closes g h sound d (within d known) wanted in
+      (λ s. walks.0 (by.0 s).1, λ c. by.1 (order.timely, walks.1 c))
 
-  applies_at : (d : ℕ) → (ClosesLoop g h d wanted → ⊥) → outcome_by (order_at at d wanted) (refusal_of g h (order_at at d wanted)) ≡ Applies (order_at at d wanted)
-  applies_at d never =
-      ap (outcome_by (order_at at d wanted)) (none_at g h (order_at at d wanted) order.timely refl (false_from_ne_true (loops_by g h d wanted) (λ e. never ((closes d wanted).0 e))))
+  applies_at : IsSoundParts g → (d : ℕ) → device_of g name ≡ Some d → (ClosesLoop g h d wanted → ⊥) →
+      outcome_by (order_at at d wanted) (refusal_of g h (order_at at d wanted)) ≡ Applies (order_at at d wanted)
+  applies_at sound d known never =
+      ap (outcome_by (order_at at d wanted))
+      (none_at g h (order_at at d wanted) order.timely refl (false_from_ne_true (loops_by g h d wanted) (λ e. never ((closes g h sound d (within d known) wanted).0 e))))
 
   judged : OrderIsJudged g h line at name wanted
   judged = record {
     unknown = subst (λ o. (o ≡ Refuses (Unread UnknownDevice)) ↔ (device_of g name ≡ None)) (sym order_outcome) (unknown_by (device_of g name));
-    looping = λ d known. subst (λ o. (o ≡ Refuses (Unapplied Loop)) ↔ ClosesLoop g h d wanted) (sym (at_device d known)) (loops_at d);
-    applied = λ d known never. at_device d known ∙ applies_at d never;
+    looping = λ sound d known. subst (λ o. (o ≡ Refuses (Unapplied Loop)) ↔ ClosesLoop g h d wanted) (sym (at_device d known)) (loops_at sound d known);
+    applied = λ sound d known never. at_device d known ∙ applies_at sound d known never;
   }
 
 pub lines_follow_rules : LinesFollowRules

@@ -1,5 +1,5 @@
 -- The lines of a text make a history of a history.
-use Rattle.std.proofs.Common.{◌≡◌, ℕ, ◌<◌, Bool, true, false, List, [], ◌∷◌, refl, length}
+use Rattle.std.proofs.Common.{◌≡◌, ℕ, ◌<◌, Bool, true, false, List, [], ◌∷◌, refl, subst, length}
 use Rattle.std.specs.Prelude.{⊤, nat_lt, Option, Some, None, Result, Ok, Err, codes, position, option_map, ok_or, if◌then◌else◌}
 use Rattle.std.specs.Str.{bytes_eq}
 use Rattle.std.proofs.lemmas.Bool.{cond_both}
@@ -190,6 +190,9 @@ module _ (g : Parts) where
   unfolding event_reading
   good_reading line =
       cond_both (is_skipped line) IsSkipped (reading_of (event_in g line)) (IsGoodReading g) (λ e. tt) (λ e. as_reading (event_in g line) (good_event line))
+
+  pub names_part : (line : List ℕ) (e : Event) → event_reading g line ≡ IsEvent e → IsOfGrid g e.what
+  names_part line e read = subst (IsGoodReading g) read (good_reading line)
 
   joins : (h : List Event) (e : Event) (o : Option Refusal) → refusal_of g h e ≡ o → IsOfGrid g e.what → IsHistory g h → IsHistory g (history_by h (outcome_by e o))
   joins h e None fits l a = (l, fits, a)

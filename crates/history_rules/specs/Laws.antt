@@ -1,7 +1,7 @@
 -- What holds after all events.
 use Rattle.std.specs.Prelude.{[], true, false, ◌≡◌, ◌≢◌, ◌<◌, ◌≤◌, ◌+◌, ◌==◌, ◌⊎◌, ℕ, List, ◌∷◌, ◌++◌, None, Some, length}
 use Rattle.std.specs.List.{list_any}
-use Rattle.outage_rules.specs.Network.{IsSound, IsSoundNetwork, IsRadial}
+use Rattle.outage_rules.specs.Network.{Cut, IsSound, IsSoundNetwork, IsRadial}
 use Rattle.outage_rules.specs.Diagnosis.{IsDiagnosis, IsLeastCost}
 use Rattle.outage_rules.specs.Laws.{IsWithin}
 use Rattle.grid_model.specs.Parts.{Parts}
@@ -67,9 +67,10 @@ AppliedStaysRadial = (g : Parts) (h : List Event) (e : Event) → IsSoundParts g
 abbrev pub ProblemIsSound : Type 0
 ProblemIsSound = (g : Parts) (h : List Event) → IsSoundParts g → IsHistory g h → IsSound (problem_after g h)
 
--- the computed set of devices is the diagnosis, the only one among the network's devices
+-- the computed set of devices is the diagnosis, and the only one: each other opens the same devices of the network
 pub record IsDiagnosed (g : Parts) (h : List Event) : Type 0 where
   pub diagnosis : IsDiagnosis (problem_after g h) (diagnosis_after g h)
+  pub only : (other : Cut) → IsDiagnosis (problem_after g h) other → (d : ℕ) → d < length g.devices → other d ≡ diagnosis_after g h d
   pub within : IsWithin (problem_after g h) (diagnosis_after g h)
   pub least : IsLeastCost (problem_after g h) (least_after g h)
 

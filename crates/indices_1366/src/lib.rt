@@ -6,7 +6,7 @@ ghost use Rattle.std.specs.Prelude.{◌≡◌, ◌≤◌, ◌*◌, ◌^◌, leng
 ghost use Rattle.std.specs.List.{All};
 ghost use Rattle.event_rules.specs.Fractions.{quotient};
 ghost use Rattle.history_rules.specs.Indices as indices;
-ghost use Rattle.history_rules.specs.Ledger.{IsLineBy};
+ghost use Rattle.indices_1366.specs.Countable.{CanBeCounted, most_lines};
 ghost use Rattle.history_rules.specs.StampTexts.{last_second};
 
 mod sums;
@@ -43,8 +43,8 @@ fn quotient_of(top: u128, under: u128) -> Option<Fraction>
 /// begin in the period, whose end isn't part of it, and that are longer than 300 seconds.
 pub fn totals(grid: &Grid, lines: &[Line], now: Stamp, period: Period) -> Indices
     requires second { now.0 ≤ last_second }
-    requires lines { All (IsLineBy grid.now now.0) lines.now }
-    requires count { length lines.now ≤ 1_000_000_000_000 }
+    requires lines { All (CanBeCounted grid.now now.0) lines.now }
+    requires count { length lines.now ≤ most_lines }
     ensures saifi { result.saifi ≡ indices.saifi grid.now period now.0 lines.now }
     ensures saidi { result.saidi ≡ indices.saidi grid.now period now.0 lines.now }
     ensures caidi { result.caidi ≡ indices.caidi grid.now period now.0 lines.now }

@@ -3,7 +3,7 @@ ghost use Rattle.std.specs.Prelude.{◌≡◌, ◌<◌, ◌≤◌, ◌+◌, ◌*
 ghost use Rattle.std.specs.List.{All};
 ghost use Rattle.history_rules.specs.Indices as indices;
 ghost use Rattle.history_rules.specs.Indices.{end_or, is_sustained, customers_interrupted, customer_seconds};
-ghost use Rattle.history_rules.specs.Ledger.{IsLineBy};
+ghost use Rattle.indices_1366.specs.Countable.{CanBeCounted, most_lines};
 ghost use Rattle.history_rules.specs.StampTexts.{last_second};
 
 use grid_model::{Grid, Line, Period, Stamp};
@@ -46,7 +46,7 @@ impl Sums {
     // With a line more, where it counts.
     fn with(self, grid: &Grid, line: Line, now: Stamp, period: Period) -> Sums
         requires second { now.0 ≤ last_second }
-        requires line { IsLineBy grid.now now.0 line }
+        requires line { CanBeCounted grid.now now.0 line }
         requires room { self.customers < 2 ^ 100 }
         requires seconds_room { self.customer_seconds < 2 ^ 120 }
         ensures customers { result.customers ≡ self.customers + customers_interrupted grid.now period now.0 (line ∷ []) }
@@ -69,8 +69,8 @@ impl Sums {
 /// The sums of a period over lines, where an open one ends now.
 pub(crate) fn sums_of(grid: &Grid, lines: &[Line], now: Stamp, period: Period) -> Sums
     requires second { now.0 ≤ last_second }
-    requires lines { All (IsLineBy grid.now now.0) lines.now }
-    requires count { length lines.now ≤ 1_000_000_000_000 }
+    requires lines { All (CanBeCounted grid.now now.0) lines.now }
+    requires count { length lines.now ≤ most_lines }
     ensures customers { result.customers ≡ customers_interrupted grid.now period now.0 lines.now }
     ensures customer_seconds { result.customer_seconds ≡ customer_seconds grid.now period now.0 lines.now }
     ensures few { result.customers < 2 ^ 80 }

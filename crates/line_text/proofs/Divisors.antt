@@ -101,3 +101,8 @@ ratio top under = record { top = top; under = under }
 -- both parts over the greatest common divisor are what is called lowest
 pub lowest-over : (top under g : ℕ) → 0 < under → IsGcd top under g → ratio (top / g) (under / g) ≡ lowest top under
 lowest-over top under g some h = rw (divisor-is top under g some h) refl
+
+-- so no number but 1 divides both of these
+pub over-apart : (top under g : ℕ) → 0 < under → IsGcd top under g → IsGcd (top / g) (under / g) 1
+over-apart top under g some h =
+    subst (λ r. IsGcd r.top r.under 1) (sym (lowest-over top under g some h)) (lowest-is top under some).apart

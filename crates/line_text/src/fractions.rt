@@ -30,6 +30,7 @@ impl Model for Fraction {
 
 impl Fraction {
     ghost use Rattle.std.specs.Prelude.{◌≡◌, ◌<◌, ◌≤◌, ◌^◌};
+    ghost use Rattle.std.specs.Int.{IsGcd};
     ghost use Rattle.event_rules.specs.Fractions.{lowest};
 
     /// The quotient of two numbers in lowest terms.
@@ -45,16 +46,19 @@ impl Fraction {
         }
     }
 
-    /// The number above the line.
+    /// The number above the line. No number but 1 divides it and the one below.
     pub fn top(&self) -> u128
-        ensures { result ≡ self.now.top }
+        ensures top { result ≡ self.now.top }
+        ensures lowest { IsGcd self.now.top self.now.under 1 }
     {
         self.top
     }
 
-    /// The number below the line.
+    /// The number below the line, which is not 0. No number but 1 divides it and the one above.
     pub fn under(&self) -> u128
-        ensures { result ≡ self.now.under }
+        ensures under { result ≡ self.now.under }
+        ensures not_zero { 0 < self.now.under }
+        ensures lowest { IsGcd self.now.top self.now.under 1 }
     {
         self.under
     }

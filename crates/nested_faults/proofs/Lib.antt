@@ -4,5 +4,4 @@ pub mod Chains
 pub mod LastCut
 pub mod Tallying
 pub mod Listed
-pub mod Keeping
 pub mod Whole

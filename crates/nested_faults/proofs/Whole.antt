@@ -17,12 +17,12 @@ use Rattle.grid_model.specs.declared.history.Stamp.{Stamp}
 use Rattle.history_rules.specs.State.{is_closed, mark_of, network_after}
 use Rattle.history_rules.specs.Evidence.{dark_weight, live_weight, dark_since, came_back, earliest}
 use Rattle.history_rules.specs.Posed.{at_node, problem_after, diagnosis_after}
-use Rattle.history_rules.specs.Laws.{EvidenceIsKept, HistoryIsTimely, ProblemIsSound}
+use Rattle.history_rules.specs.Laws.{ProblemIsSound}
 use Rattle.history_rules.specs.Outages.{is_at, last_cut, cut_above, meters_of, since_of, as_stamp, customers_of, outage_of, outages_after}
 use Rattle.radial_forest.specs.Traversed.{parent_in, number_of_device}
 use Rattle.subtree_costs.specs.Costed.{Costed, problem_in}
 use Rattle.subtree_costs.specs.Laws.{fed_rows, AreFedRows, FedRowsAreExact}
-use Rattle.diagnosis.specs.Judgement.{Judgement, IsSized, opened_by}
+use Rattle.diagnosis.specs.Judgement.{Judgement, opened_by}
 use Rattle.field_state.specs.Fielded.{Fielded, IsFieldAfter, FieldPoses}
 use Rattle.nested_faults.specs.LastCuts.{last_above, last_opened, noted_at, AreLastCuts}
 use Rattle.nested_faults.specs.Tallies.{tally_at, members, since_kept, back_kept, AreTallies}
@@ -32,7 +32,6 @@ use Rattle.nested_faults.proofs.Ranges.{filter_same, filter_map_same, any_same, 
 use Rattle.diagnosis.proofs.Agreed.{fed_alike}
 use Rattle.nested_faults.proofs.Noting.{nothing_above}
 use Rattle.nested_faults.proofs.LastCut.{last_is, above_second, above_first}
-use Rattle.nested_faults.proofs.Keeping.{since_is, back_is}
 
 -- the problem of the events, in parts
 abbrev pub problem_here : Parts → List Event → Problem
@@ -76,8 +75,8 @@ if_some None P Q f h = tt
 if_some (Some x) P Q f h = f x h
 
 -- what is noted is a device of the network
-pub noted_within : (g : Parts) (c : Costed) (j : Judgement) (last : List (Option DeviceId)) → IsSized (length g.nodes) (length g.devices) j → AreLastCuts g c j last → (n : ℕ) → IfSome (noted_at last n) (λ d. d.0 < length g.devices)
-noted_within g c j last sized cuts n =
+pub noted_within : (g : Parts) (c : Costed) (j : Judgement) (last : List (Option DeviceId)) → length j.opened ≡ length g.devices → AreLastCuts g c j last → (n : ℕ) → IfSome (noted_at last n) (λ d. d.0 < length g.devices)
+noted_within g c j last flags cuts n =
     ⊎_elim
     (λ l. subst (λ o. IfSome o (λ d. d.0 < length g.devices)) (sym (cuts.noted n l))
     (if_some (option_map device_id (last_opened g c j n)) (λ d. opened_by j d.0 ≡ true) (λ d. d.0 < length g.devices) (λ d. within d.0) (last_in_cut g (fed_rows g c) (opened_by j) ((fed_rows g c).depth n) n)))
@@ -85,7 +84,7 @@ noted_within g c j last sized cuts n =
     (cases_lt n (length g.nodes))
   where
     past : (d : ℕ) → length g.devices ≤ d → opened_by j d ≡ true → ⊥
-    past d l e = false≢true (sym (get_or_past j.opened d false (let a = sized.opened in omega arith)) ∙ e)
+    past d l e = false≢true (sym (get_or_past j.opened d false (omega arith)) ∙ e)
 
     within : (d : ℕ) → opened_by j d ≡ true → d < length g.devices
     within d e = ⊎_elim (λ l. l) (λ l. absurd (past d l e)) (cases_lt d (length g.devices))
@@ -110,7 +109,7 @@ number_is (Some x) d e = ap (λ y. Some (device_id y)) (eqb-true x.0 d e)
 
 module _ (g : Parts) (h : List Event) (f : Fielded) (j : Judgement) (last : List (Option DeviceId)) (tallies : List Tally)
     (field : IsFieldAfter g h f) (cuts : AreLastCuts g f.costs j last) (told : AreTallies g f.evidence last (length g.meters) tallies) (each : length tallies ≡ length g.devices)
-    (kept : EvidenceIsKept) (timely : HistoryIsTimely) (sound_problem : ProblemIsSound) (poses : FieldPoses) (exact : FedRowsAreExact) where
+    (sound_problem : ProblemIsSound) (poses : FieldPoses) (exact : FedRowsAreExact) where
   sound : IsSound (problem_here g h)
   sound = sound_here g h (sound_problem g h field.sound field.history)
 
@@ -191,8 +190,8 @@ module _ (g : Parts) (h : List Event) (f : Fielded) (j : Judgement) (last : List
       (t.count ∙ ap length (same_meters d))
       (t.customers ∙ ap (sum_by (customers_of g)) (same_meters d))
       (sym (stamp_back (tally_at tallies d).since)
-      ∙ ap (option_map as_stamp) (t.since ∙ fold_same in_test earliest (since_kept g f.evidence) (dark_since g h) None 0 (length g.meters) (λ m a b. since_is g h f field m (omega arith) kept timely) ∙ ap (since_of g h) (same_meters d)))
-      (t.nested ∙ any_same in_test (back_kept g f.evidence) (came_back g h) 0 (length g.meters) (λ m a b. back_is g h f field m (omega arith) kept timely) ∙ ap (list_any (came_back g h)) (same_meters d))
+      ∙ ap (option_map as_stamp) (t.since ∙ fold_same in_test earliest (since_kept g f.evidence) (dark_since g h) None 0 (length g.meters) (λ m a b. field.since m (omega arith)) ∙ ap (since_of g h) (same_meters d)))
+      (t.nested ∙ any_same in_test (back_kept g f.evidence) (came_back g h) 0 (length g.meters) (λ m a b. field.came_back m (omega arith)) ∙ ap (list_any (came_back g h)) (same_meters d))
 
   all_outages : outages_in g f.costs j last tallies (length g.devices) ≡ outages_after g h (opened_by j)
   unfolding outages_after

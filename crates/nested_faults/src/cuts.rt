@@ -3,7 +3,6 @@ ghost use Rattle.std.specs.Prelude.{◌≡◌, ◌<◌, length, IfOk, IfSome};
 ghost use Rattle.outage_rules.specs.Certificate.{other_end};
 ghost use Rattle.grid_model.specs.Network.{network_of};
 ghost use Rattle.subtree_costs.specs.Costed.{IsCosted};
-ghost use Rattle.diagnosis.specs.Judgement.{IsSized};
 ghost use Rattle.nested_faults.specs.LastCuts.{fed_parent, noted_at, noted_below, AreLastCuts};
 
 use diagnosis::Judged;
@@ -44,7 +43,7 @@ fn last_cut(
     n: NodeId,
 ) -> Option<DeviceId>
     requires costed { IsCosted grid.now costs.now }
-    requires sized { IsSized (length grid.now.nodes) (length grid.now.devices) judged.now }
+    requires flags { length judged.now.opened ≡ length grid.now.devices }
     requires node { n.0 < length grid.now.nodes }
     requires each { length last.now ≡ length grid.now.nodes }
     ensures { result ≡ noted_below grid.now judged.now last.now n.0 (fed_parent grid.now costs.now n.0) }
@@ -60,7 +59,7 @@ fn last_cut(
 // Notes of each node the last opened device on the walk to it, where there is one.
 fn note_last_cuts(grid: &Grid, costs: &CostForest, judged: &Judged, last: &mut [Option<DeviceId>])
     requires costed { IsCosted grid.now costs.now }
-    requires sized { IsSized (length grid.now.nodes) (length grid.now.devices) judged.now }
+    requires flags { length judged.now.opened ≡ length grid.now.devices }
     requires each { length last.old ≡ length grid.now.nodes }
     ensures { AreLastCuts grid.now costs.now judged.now last.new }
 {
@@ -79,7 +78,7 @@ pub(crate) fn last_cuts(
     judged: &Judged,
 ) -> Result<Vec<Option<DeviceId>>, AllocError>
     requires costed { IsCosted grid.now costs.now }
-    requires sized { IsSized (length grid.now.nodes) (length grid.now.devices) judged.now }
+    requires flags { length judged.now.opened ≡ length grid.now.devices }
     ensures { IfOk result (λ last. AreLastCuts grid.now costs.now judged.now last.items) }
 {
     let mut last = vec![in alloc; None; grid.nodes() as usize]?;

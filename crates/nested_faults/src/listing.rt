@@ -1,7 +1,6 @@
 //! The list of outages, by what is noted of the nodes and told of the devices.
 ghost use Rattle.std.specs.Prelude.{◌≡◌, ◌<◌, length, IfOk};
 ghost use Rattle.subtree_costs.specs.Costed.{IsCosted};
-ghost use Rattle.diagnosis.specs.Judgement.{IsSized};
 ghost use Rattle.nested_faults.specs.LastCuts.{noted_at};
 ghost use Rattle.nested_faults.specs.Listing.{hangs_by, upper_end, outage_in, outages_in};
 
@@ -87,7 +86,7 @@ pub(crate) fn list_outages(
     tallies: &[Tally],
 ) -> Result<Vec<Outage>, AllocError>
     requires costed { IsCosted grid.now costs.now }
-    requires sized { IsSized (length grid.now.nodes) (length grid.now.devices) judged.now }
+    requires flags { length judged.now.opened ≡ length grid.now.devices }
     requires each_node { length last.now ≡ length grid.now.nodes }
     requires each_device { length tallies.now ≡ length grid.now.devices }
     ensures { IfOk result (λ v. v.items ≡ outages_in grid.now costs.now judged.now last.now tallies.now (length grid.now.devices)) }

@@ -13,7 +13,7 @@ use crate::tally::tallies;
 use diagnosis::Judged;
 use field_state::{Field, field_poses};
 use grid_model::{Grid, Outage};
-use history_rules::{evidence_is_kept, history_is_timely, problem_is_sound};
+use history_rules::problem_is_sound;
 use std::alloc::{AllocError, Global};
 use subtree_costs::fed_rows_are_exact;
 
@@ -34,8 +34,6 @@ pub fn outages(
     let costs = field.costs();
     let last = last_cuts(alloc, grid, costs, judged)?;
     let tallies = tallies(alloc, grid, field.evidence(), &last)?;
-    evidence_is_kept();
-    history_is_timely();
     problem_is_sound();
     field_poses();
     fed_rows_are_exact();

@@ -19,7 +19,7 @@ fn tell<R: Eprint>(rt: &R, status: Status) -> io::Result<()> {
     match status {
         Status::Done | Status::Invalid { .. } => Ok(()),
         Status::Usage => eprintln!(rt;
-            "outage: usage: replay NET EVENTS [--bounds] [--from T] [--to T], check NET EVENTS REPORT, trial N"
+            "outage: usage: replay NET EVENTS [--bounds] [--from T] [--to T], follow NET, check NET EVENTS REPORT, trial N"
         ),
         Status::ReadFault => eprintln!(rt; "outage: a read failed"),
         Status::WriteFault => eprintln!(rt; "outage: a write failed"),

@@ -18,8 +18,8 @@ use Rattle.run_rules.specs.Files.{most_network, most_events, most_report, IsTooL
 use Rattle.run_rules.specs.Told.{verdict_on}
 use Rattle.grid_maker.specs.NetworkText.{network_text}
 use Rattle.run_rules.specs.Trial.{EndsTrial, CompletesTrial, MakesRefused}
-use Rattle.run_rules.specs.Run.{CanReplay, CanCheck, RefusesNetwork, RefusesReport, IsOverFiles, IsOver, IsDue, status_of, Completes, IsComplete}
-use Rattle.engine_run.specs.Ended.{EndsAs, IsEnd}
+use Rattle.run_rules.specs.Run.{Run, run_of, CanReplay, CanCheck, RefusesNetwork, RefusesReport, IsOverFiles, IsOver, IsDue, status_of, Completes, IsComplete}
+use Rattle.run_rules.specs.Ends.{EndsReplay, EndsCheck, EndsAs, IsEnd}
 use Rattle.run_rules.specs.declared.status.Status.{Status}
 use Rattle.run_rules.specs.declared.status.Status.TheVariants.{Done, Invalid, Usage, ReadFault, WriteFault, NetworkRefused, ReportRefused, Limit, Memory}
 use Rattle.run_rules.specs.declared.status.Which.{Which}
@@ -165,13 +165,13 @@ module _ (files : Files) where
 
   check_or_refused : (places : Places) (report : List ℕ) (v : Verdict) (line : ℕ) (rule : BoundRule) → CanCheck files places report v → RefusesReport files (Check places report) line rule → ⊥
   check_or_refused places report v line rule can r =
-      bounds_or_refused report can.parts r.0.parts can.bounds line rule (same_parts places.net can.parts r.0.parts can.network r.0.network) can.report_file r.1
+      bounds_or_refused report can.parts r.can.parts can.bounds line rule (same_parts places.net can.parts r.can.parts can.network r.can.network) can.report_file r.refused
 
   refused_or_long : (places : Places) (report : List ℕ) (line : ℕ) (rule : BoundRule) (which : Which) → RefusesReport files (Check places report) line rule → IsOver files (Check places report) which → ⊥
-  refused_or_long places report line rule NetworkBytes r o = can_or_long places r.0 o
-  refused_or_long places report line rule EventLines r o = few_or_many places.events r.0.events o.bytes r.0.event_file o.many
-  refused_or_long places report line rule EventBytes r o = few_or_more places.events r.0.events o.bytes r.0.event_file o.long
-  refused_or_long places report line rule ReportBytes r o = not_long files report r.1.bytes most_report r.1.file o.1
+  refused_or_long places report line rule NetworkBytes r o = can_or_long places r.can o
+  refused_or_long places report line rule EventLines r o = few_or_many places.events r.can.events o.bytes r.can.event_file o.many
+  refused_or_long places report line rule EventBytes r o = few_or_more places.events r.can.events o.bytes r.can.event_file o.long
+  refused_or_long places report line rule ReportBytes r o = not_long files report r.refused.bytes most_report r.refused.file o.1
 
   one_check : (places : Places) (report : List ℕ) (v w : Verdict) → CanCheck files places report v → CanCheck files places report w → v ≡ w
   one_check places report v w p q =
@@ -219,128 +219,143 @@ module _ (files : Files) where
   one_limit (Check places report) EventBytes EventBytes p q = refl
   one_limit (Trial n) a b p q = absurd p
 
-  module _ (left before now : Option (List ℕ)) where
+  module _ (run : Run) where
     -- which limit is owed
-    over_owed : (command : Command) (status : Status) → EndsAs files left before now command status → (status ≡ ReadFault → ⊥) →
+    over_owed : (command : Command) (status : Status) → EndsAs (Some command) (Some files) run status → (status ≡ ReadFault → ⊥) →
         (which : Which) → IsOver files command which → (status ≡ Limit which) ⊎ ((status ≡ Memory) ⊎ (status ≡ WriteFault))
     over_owed (Trial n) status end read which o = absurd o
     over_owed (Replay places wish) Done end read which o = absurd (replay_or_over places wish which end.can o)
-    over_owed (Check places report) Done end read which o = absurd (check_or_over places report verdict.Valid which end.can o)
+    over_owed (Check places report) Done end read which o = absurd (check_or_over places report verdict.Valid which end.check.can o)
     over_owed (Replay places wish) (Invalid rule) end read which o = absurd end
     over_owed (Check places report) (Invalid rule) end read which o = absurd (check_or_over places report (verdict.Invalid rule end.0) which end.1.can o)
-    over_owed command Usage end read which o = absurd end
-    over_owed command ReadFault end read which o = absurd (read refl)
-    over_owed command WriteFault end read which o = inr (inr refl)
-    over_owed command (NetworkRefused line rule) end read which o = absurd (refused_or_over command line rule which end o)
+    over_owed (Replay places wish) Usage end read which o = absurd end
+    over_owed (Check places report) Usage end read which o = absurd end
+    over_owed (Replay places wish) ReadFault end read which o = absurd (read refl)
+    over_owed (Check places report) ReadFault end read which o = absurd (read refl)
+    over_owed (Replay places wish) WriteFault end read which o = inr (inr refl)
+    over_owed (Check places report) WriteFault end read which o = inr (inr refl)
+    over_owed (Replay places wish) (NetworkRefused line rule) end read which o = absurd (refused_or_over (Replay places wish) line rule which end.0 o)
+    over_owed (Check places report) (NetworkRefused line rule) end read which o = absurd (refused_or_over (Check places report) line rule which end.0 o)
     over_owed (Replay places wish) (ReportRefused line rule) end read which o = absurd end
-    over_owed (Check places report) (ReportRefused line rule) end read which o = absurd (refused_or_long places report line rule which end o)
-    over_owed command (Limit a) end read which o = inl (one_limit command a which end.0 o)
-    over_owed command Memory end read which o = inr (inl refl)
+    over_owed (Check places report) (ReportRefused line rule) end read which o = absurd (refused_or_long places report line rule which end.0 o)
+    over_owed (Replay places wish) (Limit a) end read which o = inl (one_limit (Replay places wish) a which end.0 o)
+    over_owed (Check places report) (Limit a) end read which o = inl (one_limit (Check places report) a which end.0 o)
+    over_owed (Replay places wish) Memory end read which o = inr (inl refl)
+    over_owed (Check places report) Memory end read which o = inr (inl refl)
 
     -- which refusal of the network that is made
-    trial_network_owed : (n : ℕ) (status : Status) → EndsAs files left before now (Trial n) status → (status ≡ ReadFault → ⊥) →
+    trial_network_owed : (before now : Option (List ℕ)) (n : ℕ) (status : Status) → EndsTrial before now n status →
         (line : ℕ) (rule : GridRule) → MakesRefused n line rule → (status ≡ NetworkRefused line rule) ⊎ (status ≡ Memory)
-    trial_network_owed n Done end read line rule r = absurd (grid_or_refused end.parts line rule (grid_text (network_text n)) end.network r)
-    trial_network_owed n (Invalid broken) end read line rule r = absurd end
-    trial_network_owed n Usage end read line rule r = absurd end
-    trial_network_owed n ReadFault end read line rule r = absurd (read refl)
-    trial_network_owed n WriteFault end read line rule r = absurd (grid_or_refused end.parts line rule (grid_text (network_text n)) end.network r)
-    trial_network_owed n (NetworkRefused other rival) end read line rule r = inl (one_grid_refusal other line rival rule (grid_text (network_text n)) end r)
-    trial_network_owed n (ReportRefused other rival) end read line rule r = absurd end
-    trial_network_owed n (Limit which) end read line rule r = absurd end.0
-    trial_network_owed n Memory end read line rule r = inr refl
+    trial_network_owed before now n Done end line rule r = absurd (grid_or_refused end.parts line rule (grid_text (network_text n)) end.network r)
+    trial_network_owed before now n (Invalid broken) end line rule r = absurd end
+    trial_network_owed before now n Usage end line rule r = absurd end
+    trial_network_owed before now n ReadFault end line rule r = absurd end
+    trial_network_owed before now n WriteFault end line rule r = absurd (grid_or_refused end.parts line rule (grid_text (network_text n)) end.network r)
+    trial_network_owed before now n (NetworkRefused other rival) end line rule r = inl (one_grid_refusal other line rival rule (grid_text (network_text n)) end r)
+    trial_network_owed before now n (ReportRefused other rival) end line rule r = absurd end
+    trial_network_owed before now n (Limit which) end line rule r = absurd end
+    trial_network_owed before now n Memory end line rule r = inr refl
 
     -- which refusal of the network
-    network_owed : (command : Command) (status : Status) → EndsAs files left before now command status → (status ≡ ReadFault → ⊥) →
+    replay_network_owed : (places : Places) (wish : Wish) (status : Status) → EndsReplay files run places wish status → (status ≡ ReadFault → ⊥) →
+        (line : ℕ) (rule : GridRule) → RefusesNetworkAt files places.net line rule → (status ≡ NetworkRefused line rule) ⊎ (status ≡ Memory)
+    replay_network_owed places wish Done end read line rule r = absurd (can_or_refused places line rule end.can r)
+    replay_network_owed places wish (Invalid broken) end read line rule r = absurd end
+    replay_network_owed places wish Usage end read line rule r = absurd end
+    replay_network_owed places wish ReadFault end read line rule r = absurd (read refl)
+    replay_network_owed places wish WriteFault end read line rule r = absurd (says_or_refused places.net end.can.parts line rule end.can.network r)
+    replay_network_owed places wish (NetworkRefused other rival) end read line rule r = inl (refused_once places.net other line rival rule end.0 r)
+    replay_network_owed places wish (ReportRefused other rival) end read line rule r = absurd end
+    replay_network_owed places wish (Limit a) end read line rule r = absurd (refused_or_over (Replay places wish) line rule a r end.0)
+    replay_network_owed places wish Memory end read line rule r = inr refl
+
+    check_network_owed : (places : Places) (report : List ℕ) (status : Status) → EndsCheck files run places report status → (status ≡ ReadFault → ⊥) →
+        (line : ℕ) (rule : GridRule) → RefusesNetworkAt files places.net line rule → (status ≡ NetworkRefused line rule) ⊎ (status ≡ Memory)
+    check_network_owed places report Done end read line rule r = absurd (says_or_refused places.net end.check.can.parts line rule end.check.can.network r)
+    check_network_owed places report (Invalid broken) end read line rule r = absurd (says_or_refused places.net end.1.can.parts line rule end.1.can.network r)
+    check_network_owed places report Usage end read line rule r = absurd end
+    check_network_owed places report ReadFault end read line rule r = absurd (read refl)
+    check_network_owed places report WriteFault end read line rule r = absurd (says_or_refused places.net end.can.parts line rule end.can.network r)
+    check_network_owed places report (NetworkRefused other rival) end read line rule r = inl (refused_once places.net other line rival rule end.0 r)
+    check_network_owed places report (ReportRefused other rival) end read line rule r = absurd (can_or_refused places line rule end.0.can r)
+    check_network_owed places report (Limit a) end read line rule r = absurd (refused_or_over (Check places report) line rule a r end.0)
+    check_network_owed places report Memory end read line rule r = inr refl
+
+    network_owed : (command : Command) (status : Status) → EndsAs (Some command) (Some files) run status → (status ≡ ReadFault → ⊥) →
         (line : ℕ) (rule : GridRule) → RefusesNetwork files command line rule → (status ≡ NetworkRefused line rule) ⊎ (status ≡ Memory)
-    network_owed (Trial n) status end read line rule r = trial_network_owed n status end read line rule r
-    network_owed (Replay places wish) Done end read line rule r = absurd (can_or_refused places line rule end.can r)
-    network_owed (Check places report) Done end read line rule r = absurd (says_or_refused places.net end.can.parts line rule end.can.network r)
-    network_owed (Replay places wish) (Invalid broken) end read line rule r = absurd end
-    network_owed (Check places report) (Invalid broken) end read line rule r = absurd (says_or_refused places.net end.1.can.parts line rule end.1.can.network r)
-    network_owed command Usage end read line rule r = absurd end
-    network_owed command ReadFault end read line rule r = absurd (read refl)
-    network_owed (Replay places wish) WriteFault end read line rule r = absurd (says_or_refused places.net end.can.parts line rule end.can.network r)
-    network_owed (Check places report) WriteFault end read line rule r = absurd (says_or_refused places.net end.can.parts line rule end.can.network r)
-    network_owed (Replay places wish) (NetworkRefused other rival) end read line rule r = inl (refused_once places.net other line rival rule end r)
-    network_owed (Check places report) (NetworkRefused other rival) end read line rule r = inl (refused_once places.net other line rival rule end r)
-    network_owed (Replay places wish) (ReportRefused other rival) end read line rule r = absurd end
-    network_owed (Check places report) (ReportRefused other rival) end read line rule r = absurd (can_or_refused places line rule end.0 r)
-    network_owed command (Limit a) end read line rule r = absurd (refused_or_over command line rule a r end.0)
-    network_owed command Memory end read line rule r = inr refl
+    network_owed (Replay places wish) status end read line rule r = replay_network_owed places wish status end read line rule r
+    network_owed (Check places report) status end read line rule r = check_network_owed places report status end read line rule r
+    network_owed (Trial n) status end read line rule r = trial_network_owed run.before run.now n status end line rule r
 
     -- which refusal of the report
-    report_owed : (command : Command) (status : Status) → EndsAs files left before now command status → (status ≡ ReadFault → ⊥) →
+    check_report_owed : (places : Places) (report : List ℕ) (status : Status) → EndsCheck files run places report status → (status ≡ ReadFault → ⊥) →
+        (line : ℕ) (rule : BoundRule) → RefusesReport files (Check places report) line rule → (status ≡ ReportRefused line rule) ⊎ (status ≡ Memory)
+    check_report_owed places report Done end read line rule r = absurd (check_or_refused places report verdict.Valid line rule end.check.can r)
+    check_report_owed places report (Invalid broken) end read line rule r = absurd (check_or_refused places report (verdict.Invalid broken end.0) line rule end.1.can r)
+    check_report_owed places report Usage end read line rule r = absurd end
+    check_report_owed places report ReadFault end read line rule r = absurd (read refl)
+    check_report_owed places report WriteFault end read line rule r = absurd (check_or_refused places report end.verdict line rule end.can r)
+    check_report_owed places report (NetworkRefused other rival) end read line rule r = absurd (can_or_refused places other rival r.can end.0)
+    check_report_owed places report (ReportRefused other rival) end read line rule r =
+        inl (report_refused_once report end.0.can.parts r.can.parts other line rival rule (same_parts places.net end.0.can.parts r.can.parts end.0.can.network r.can.network) end.0.refused r.refused)
+    check_report_owed places report (Limit a) end read line rule r = absurd (refused_or_long places report line rule a r end.0)
+    check_report_owed places report Memory end read line rule r = inr refl
+
+    report_owed : (command : Command) (status : Status) → EndsAs (Some command) (Some files) run status → (status ≡ ReadFault → ⊥) →
         (line : ℕ) (rule : BoundRule) → RefusesReport files command line rule → (status ≡ ReportRefused line rule) ⊎ (status ≡ Memory)
     report_owed (Replay places wish) status end read line rule r = absurd r
+    report_owed (Check places report) status end read line rule r = check_report_owed places report status end read line rule r
     report_owed (Trial n) status end read line rule r = absurd r
-    report_owed (Check places report) Done end read line rule r = absurd (check_or_refused places report verdict.Valid line rule end.can r)
-    report_owed (Check places report) (Invalid broken) end read line rule r = absurd (check_or_refused places report (verdict.Invalid broken end.0) line rule end.1.can r)
-    report_owed (Check places report) Usage end read line rule r = absurd end
-    report_owed (Check places report) ReadFault end read line rule r = absurd (read refl)
-    report_owed (Check places report) WriteFault end read line rule r = absurd (check_or_refused places report end.verdict line rule end.can r)
-    report_owed (Check places report) (NetworkRefused other rival) end read line rule r = absurd (can_or_refused places other rival r.0 end)
-    report_owed (Check places report) (ReportRefused other rival) end read line rule r =
-        inl (report_refused_once report end.0.parts r.0.parts other line rival rule (same_parts places.net end.0.parts r.0.parts end.0.network r.0.network) end.1 r.1)
-    report_owed (Check places report) (Limit a) end read line rule r = absurd (refused_or_long places report line rule a r end.0)
-    report_owed (Check places report) Memory end read line rule r = inr refl
 
     -- what completes a command
-    replay_completes : (places : Places) (wish : Wish) (status : Status) → EndsAs files left before now (Replay places wish) status → (status ≡ ReadFault → ⊥) → (status ≡ WriteFault → ⊥) →
+    replay_completes : (places : Places) (wish : Wish) (status : Status) → EndsReplay files run places wish status → (status ≡ ReadFault → ⊥) → (status ≡ WriteFault → ⊥) →
         CanReplay files places → (status ≡ Done) ⊎ (status ≡ Memory)
     replay_completes places wish Done end read write can = inl refl
     replay_completes places wish (Invalid rule) end read write can = absurd end
     replay_completes places wish Usage end read write can = absurd end
     replay_completes places wish ReadFault end read write can = absurd (read refl)
     replay_completes places wish WriteFault end read write can = absurd (write refl)
-    replay_completes places wish (NetworkRefused line rule) end read write can = absurd (can_or_refused places line rule can end)
+    replay_completes places wish (NetworkRefused line rule) end read write can = absurd (can_or_refused places line rule can end.0)
     replay_completes places wish (ReportRefused line rule) end read write can = absurd end
     replay_completes places wish (Limit which) end read write can = absurd (replay_or_over places wish which can end.0)
     replay_completes places wish Memory end read write can = inr refl
 
-    check_completes : (places : Places) (report : List ℕ) (status : Status) → EndsAs files left before now (Check places report) status → (status ≡ ReadFault → ⊥) → (status ≡ WriteFault → ⊥) →
+    check_completes : (places : Places) (report : List ℕ) (status : Status) → EndsCheck files run places report status → (status ≡ ReadFault → ⊥) → (status ≡ WriteFault → ⊥) →
         (v : Verdict) → CanCheck files places report v → (status ≡ status_of v) ⊎ (status ≡ Memory)
-    check_completes places report Done end read write v can = inl (ap status_of (one_check places report verdict.Valid v end.can can))
+    check_completes places report Done end read write v can = inl (ap status_of (one_check places report verdict.Valid v end.check.can can))
     check_completes places report (Invalid rule) end read write v can = inl (ap status_of (one_check places report (verdict.Invalid rule end.0) v end.1.can can))
     check_completes places report Usage end read write v can = absurd end
     check_completes places report ReadFault end read write v can = absurd (read refl)
     check_completes places report WriteFault end read write v can = absurd (write refl)
-    check_completes places report (NetworkRefused line rule) end read write v can = absurd (can_or_refused places line rule (can_of places report v can) end)
-    check_completes places report (ReportRefused line rule) end read write v can = absurd (check_or_refused places report v line rule can end)
+    check_completes places report (NetworkRefused line rule) end read write v can = absurd (can_or_refused places line rule (can_of places report v can) end.0)
+    check_completes places report (ReportRefused line rule) end read write v can = absurd (check_or_refused places report v line rule can end.0)
     check_completes places report (Limit which) end read write v can = absurd (check_or_over places report v which can end.0)
     check_completes places report Memory end read write v can = inr refl
 
-    -- a trial's end is the same whatever the files are
-    trial_ended : (n : ℕ) (status : Status) → EndsAs files left before now (Trial n) status → EndsTrial before now n status
-    trial_ended n Done end = end
-    trial_ended n (Invalid rule) end = absurd end
-    trial_ended n Usage end = absurd end
-    trial_ended n ReadFault end = absurd end
-    trial_ended n WriteFault end = end
-    trial_ended n (NetworkRefused line rule) end = end
-    trial_ended n (ReportRefused line rule) end = absurd end
-    trial_ended n (Limit which) end = absurd end.0
-    trial_ended n Memory end = end
-
-    completes : (command : Command) (status : Status) → EndsAs files left before now command status → (status ≡ ReadFault → ⊥) → (status ≡ WriteFault → ⊥) → Completes files command status
+    completes : (command : Command) (status : Status) → EndsAs (Some command) (Some files) run status → (status ≡ ReadFault → ⊥) → (status ≡ WriteFault → ⊥) → Completes files command status
     completes (Replay places wish) status end read write = replay_completes places wish status end read write
     completes (Check places report) status end read write = check_completes places report status end read write
-    completes (Trial n) status end read write = trial_completes before now n status (trial_ended n status end) write
+    completes (Trial n) status end read write = trial_completes run.before run.now n status end write
 
--- a run that ends so is complete
-pub end_complete : (files : Option Files) (left before now : Option (List ℕ)) (command : Option Command) (status : Status) →
-    IsEnd files left before now command status → (status ≡ ReadFault → ⊥) → (status ≡ WriteFault → ⊥) → IsComplete files command status
-end_complete None left before now command status end read write = tt
-end_complete (Some files) left before now None status end read write = tt
-end_complete (Some files) left before now (Some command) status end read write = completes files left before now command status end read write
+module _ (files : Option Files) (left_before left before now : Option (List ℕ)) (command : Option Command) (status : Status) where
+  -- a run that ends so is complete
+  pub end_complete : IsEnd (run_of files left_before left before now command) status → (status ≡ ReadFault → ⊥) → (status ≡ WriteFault → ⊥) → IsComplete files command status
+  end_complete end read write = told files command end
+    where
+      told : (files : Option Files) (command : Option Command) → IsEnd (run_of files left_before left before now command) status → IsComplete files command status
+      told None command end = tt
+      told (Some files) None end = tt
+      told (Some files) (Some command) end = completes files (run_of (Some files) left_before left before now (Some command)) command status end read write
 
--- and answers what is owed
-pub end_due : (files : Option Files) (left before now : Option (List ℕ)) (command : Option Command) (status : Status) →
-    IsEnd files left before now command status → (status ≡ ReadFault → ⊥) → IsDue files command status
-end_due None left before now command status end read = tt
-end_due (Some files) left before now None status end read = tt
-end_due (Some files) left before now (Some command) status end read = record {
-  over = over_owed files left before now command status end read;
-  network = network_owed files left before now command status end read;
-  report = report_owed files left before now command status end read;
-}
+  -- and answers what is owed
+  pub end_due : IsEnd (run_of files left_before left before now command) status → (status ≡ ReadFault → ⊥) → IsDue files command status
+  end_due end read = told files command end
+    where
+      told : (files : Option Files) (command : Option Command) → IsEnd (run_of files left_before left before now command) status → IsDue files command status
+      told None command end = tt
+      told (Some files) None end = tt
+      told (Some files) (Some command) end = record {
+        over = over_owed files (run_of (Some files) left_before left before now (Some command)) command status end read;
+        network = network_owed files (run_of (Some files) left_before left before now (Some command)) command status end read;
+        report = report_owed files (run_of (Some files) left_before left before now (Some command)) command status end read;
+      }

@@ -1,15 +1,12 @@
 //! The top call.
-ghost use Rattle.std.specs.Prelude.{◌≡◌, ◌⊎◌, ◌<◌, ◌≤◌, ℕ, map, string_bytes, None, Some};
-ghost use Rattle.outage_ports.specs.Causes.{Rose};
-ghost use Rattle.bound_table.specs.declared.bounds.BoundRule.{BoundRule};
-ghost use Rattle.bound_checker.specs.declared.rules.CheckRule.{CheckRule};
-ghost use Rattle.grid_reader.specs.declared.fault.GridRule.{GridRule};
-ghost use Rattle.run_rules.specs.declared.status.Which.{Which};
+ghost use Rattle.std.specs.Prelude.{◌≡◌, ℕ, map, string_bytes, None, Some};
 ghost use Rattle.history_rules.specs.RunLaws.{LinesFollowRules};
 ghost use Rattle.history_rules.specs.Shown.{DiagnosisIsPrinted};
 ghost use Rattle.command_words.specs.Forms.{command_of, Allows, Trial};
-ghost use Rattle.run_rules.specs.Run.{IsSilent, IsDone, IsInvalid, IsRefused, IsReportRefused, IsLimit, IsLeft, IsCut, IsPart, IsPartAtMost, IsComplete, IsDue};
-ghost use Rattle.run_rules.specs.Trial.{EndsTrial, CompletesTrial};
+ghost use Rattle.run_rules.specs.Faults.{TellsFaults};
+ghost use Rattle.run_rules.specs.Trial.{CompletesTrial};
+ghost use Rattle.run_rules.specs.Run.{run_of, IsSilent, IsComplete, IsDue};
+ghost use Rattle.run_rules.specs.Ends.{NoneFailed, IsEnd};
 ghost use Rattle.outage_cli.specs.Confirmed.{IsOwnConfirmed};
 
 use check_run::run_check;
@@ -38,43 +35,41 @@ pub fn outage_main<S: Shelf, K: Sink>(
 ) -> Status
     requires { Allows S.allows (command_of (map string_bytes words.now)) }
 
-    // Words of no form, and nothing is read or written then. Reading the words takes memory too.
-    ensures usage { result ≡ Status.Usage → command_of (map string_bytes words.now) ≡ None }
-    ensures no_form { command_of (map string_bytes words.now) ≡ None → (result ≡ Status.Usage) ⊎ (result ≡ Status.Memory) }
-    ensures untouched { command_of (map string_bytes words.now) ≡ None → (shelf.new ≡ shelf.old) × (out.new ≡ out.old) }
-
-    ensures shelf_later { S.faults shelf.old ≤ S.faults shelf.new }
-    ensures read { result ≡ Status.ReadFault → Rose (S.faults shelf.old) (S.faults shelf.new) }
-    ensures read_risen { S.faults shelf.old < S.faults shelf.new → result ≡ Status.ReadFault }
-    ensures out_later { K.faults out.old ≤ K.faults out.new }
-    ensures write { result ≡ Status.WriteFault → Rose (K.faults out.old) (K.faults out.new) }
-    ensures write_risen { K.faults out.old < K.faults out.new → result ≡ Status.WriteFault }
-    ensures done { result ≡ Status.Done → IsDone (S.files shelf.old) (S.left shelf.new) (K.written out.old) (K.written out.new) (command_of (map string_bytes words.now)) }
-    ensures invalid { (rule : CheckRule) → result ≡ Status.Invalid rule → IsInvalid (S.files shelf.old) (S.left shelf.new) (K.written out.old) (K.written out.new) (command_of (map string_bytes words.now)) rule }
-    ensures refused { (line : ℕ) (rule : GridRule) → result ≡ Status.NetworkRefused line rule → IsRefused (S.files shelf.old) (command_of (map string_bytes words.now)) line rule }
-    ensures report { (line : ℕ) (rule : BoundRule) → result ≡ Status.ReportRefused line rule → IsReportRefused (S.files shelf.old) (command_of (map string_bytes words.now)) line rule }
-    ensures limit { (which : Which) → result ≡ Status.Limit which → IsLimit (S.files shelf.old) (command_of (map string_bytes words.now)) which }
+    // How the run ends: what each status says of the words, of the files, of what was left to read
+    // and of what was written.
+    ensures ends { IsEnd (run_of (S.files shelf.old) (S.left shelf.old) (S.left shelf.new)
+        (K.written out.old) (K.written out.new) (command_of (map string_bytes words.now))) result }
     ensures idle { IsSilent (command_of (map string_bytes words.now)) result → out.new ≡ out.old }
-    ensures left { result ≡ Status.ReadFault → IsLeft (S.files shelf.old) (K.written out.old) (K.written out.new) (command_of (map string_bytes words.now)) }
-    ensures cut { (which : Which) → result ≡ Status.Limit which → IsCut (S.files shelf.old) (K.written out.old) (K.written out.new) (command_of (map string_bytes words.now)) which }
-    ensures part { result ≡ Status.WriteFault → IsPart (S.files shelf.old) (K.written out.old) (K.written out.new) (command_of (map string_bytes words.now)) }
-    ensures memory { result ≡ Status.Memory → IsPartAtMost (S.files shelf.old) (K.written out.old) (K.written out.new) (command_of (map string_bytes words.now)) }
-    ensures complete { (Rose (S.faults shelf.old) (S.faults shelf.new) → ⊥) → (Rose (K.faults out.old) (K.faults out.new) → ⊥)
+    ensures untouched { command_of (map string_bytes words.now) ≡ None
+        → (shelf.new ≡ shelf.old) × (out.new ≡ out.old) }
+
+    // A failure comes only with a fault of the shelf or the sink, and each fault is told.
+    ensures shelf { TellsFaults (S.faults shelf.old) (S.faults shelf.new)
+        (result ≡ Status.ReadFault) }
+    ensures out { TellsFaults (K.faults out.old) (K.faults out.new) (result ≡ Status.WriteFault) }
+
+    // Where nothing failed, what the words ask for is done, and each cause to stop is told.
+    ensures complete { NoneFailed (S.faults shelf.old) (S.faults shelf.new)
+        → NoneFailed (K.faults out.old) (K.faults out.new)
         → IsComplete (S.files shelf.old) (command_of (map string_bytes words.now)) result }
-    ensures due { (Rose (S.faults shelf.old) (S.faults shelf.new) → ⊥) → IsDue (S.files shelf.old) (command_of (map string_bytes words.now)) result }
+    ensures due { NoneFailed (S.faults shelf.old) (S.faults shelf.new)
+        → IsDue (S.files shelf.old) (command_of (map string_bytes words.now)) result }
 
     // What a replay wrote with its bounds is found valid, by the same network and events.
-    ensures own_report { (Rose (S.faults shelf.old) (S.faults shelf.new) → ⊥) → (Rose (K.faults out.old) (K.faults out.new) → ⊥)
-        → IsOwnConfirmed (S.files shelf.old) (K.written out.old) (K.written out.new) (command_of (map string_bytes words.now)) result }
+    ensures own_report { NoneFailed (S.faults shelf.old) (S.faults shelf.new)
+        → NoneFailed (K.faults out.old) (K.faults out.new)
+        → IsOwnConfirmed (S.files shelf.old) (K.written out.old) (K.written out.new)
+        (command_of (map string_bytes words.now)) result }
 
-    // A trial reads no file, whatever the shelf tells, and writes the summary.
-    ensures trial { (n : ℕ) → command_of (map string_bytes words.now) ≡ Some (Trial n) → EndsTrial (K.written out.old) (K.written out.new) n result }
-    ensures trial_reads { (n : ℕ) → command_of (map string_bytes words.now) ≡ Some (Trial n) → shelf.new ≡ shelf.old }
-    ensures trial_complete { (Rose (K.faults out.old) (K.faults out.new) → ⊥) → (n : ℕ) → command_of (map string_bytes words.now) ≡ Some (Trial n) → CompletesTrial n result }
+    // A trial reads no file, and is done whatever the shelf tells.
+    ensures trial_reads { (n : ℕ) → command_of (map string_bytes words.now) ≡ Some (Trial n)
+        → shelf.new ≡ shelf.old }
+    ensures trial_complete { NoneFailed (K.faults out.old) (K.faults out.new) → (n : ℕ)
+        → command_of (map string_bytes words.now) ≡ Some (Trial n) → CompletesTrial n result }
 
-    // Each line is skipped, or refused by the first rule that fits, or applied; a well-formed timely
-    // order is refused exactly where it would close a loop or names no device. And whoever reads the
-    // entries line by line knows the diagnosis.
+    // Each line is skipped, or refused by the first rule that fits, or applied; a well-formed
+    // timely order is refused exactly where it would close a loop or names no device. And whoever
+    // reads the entries line by line knows the diagnosis.
     ensures rules { LinesFollowRules }
     ensures printed { DiagnosisIsPrinted }
 {

@@ -18,6 +18,10 @@ pub record Engined : Type 0 where
   pub judged : Judgement
   pub ledger : Ledgered
 
+-- the state that has these parts
+abbrev pub engined : Parts → Fielded → Judgement → Ledgered → Engined
+engined grid field judged ledger = record { grid = grid; field = field; judged = judged; ledger = ledger }
+
 -- no event is later than the last second of the year 9999
 pub record IsInRange (h : List Event) : Type 0 where
   pub last : now h ≤ last_second

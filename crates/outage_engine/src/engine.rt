@@ -1,6 +1,13 @@
 //! The engine: a network, its field after events, what is judged of it, and the ledger of
 //! interruptions.
-ghost use Rattle.std.specs.Prelude.{◌≡◌};
+ghost use Rattle.std.specs.Prelude.{◌≡◌, ◌≤◌, ◌+◌, true, false, List, ◌∷◌, length, map};
+ghost use Rattle.grid_model.specs.declared.history.Event.{Event};
+ghost use Rattle.history_rules.specs.StampTexts.{last_second};
+ghost use Rattle.diagnosis.specs.Judgement.{IsSized, differences};
+ghost use Rattle.field_state.specs.Fielded.{IsFieldAfter, IsField};
+ghost use Rattle.outage_engine.specs.Recording.{AreFlagsOf, IsLedgerAfter};
+ghost use Rattle.outage_engine.specs.Settled.{CanBeSettled, settle_work};
+ghost use Rattle.outage_engine.specs.Engined.{engined, IsEngineAfter};
 
 use crate::Applied;
 use crate::bounds::bounds_of;
@@ -33,24 +40,70 @@ impl Model for Engine {
 
     ghost Value = { Engined };
 
-    ghost use Rattle.outage_engine.specs.EngineInside.{engined_of};
+    ghost use Rattle.outage_engine.specs.EngineInside.{engined_of, IsEngineInside};
 
     ghost view = { engined_of };
+
+    ghost invariant = { IsEngineInside };
+}
+
+// The least cost of a field.
+fn least_cost(field: &Field) -> u64
+    ensures { result ≡ field.now.costs.total }
+{
+    field.costs().total()
+}
+
+// Judges what a field poses after an event, and records which meters went dark or live at the time.
+fn judge<L: Counter>(
+    grid: &Grid,
+    field: &Field,
+    judged: &mut Judged,
+    ledger: &mut Ledger,
+    at: Stamp,
+    switched: bool,
+    steps: &mut Steps<L>,
+)
+    requires field { IsField grid.now field.now }
+    requires sized { IsSized (length grid.now.nodes) (length grid.now.devices) judged.old }
+    requires each { length ledger.old.meters ≡ length grid.now.meters }
+    requires settled { switched ≡ false → CanBeSettled grid.now field.now judged.old }
+    requires flags { AreFlagsOf grid.now judged.old.dark ledger.old }
+    requires spare { length grid.now.meters ≤ ledger.old.spare }
+    requires range { at.0 ≤ last_second }
+    ensures after { (h : List Event) (e : Event) → e.time ≡ at
+        → IsFieldAfter grid.now (e ∷ h) field.now → IsLedgerAfter grid.now h ledger.old
+        → IsEngineAfter (e ∷ h) (engined grid.now field.now judged.new ledger.new) }
+    ensures changed { map (λ d. d.0) judged.new.changed
+        ≡ differences judged.old.opened judged.new.opened }
+    ensures spare { ledger.old.spare ≤ ledger.new.spare + length grid.now.meters }
+    ensures anew { switched ≡ true → steps.new ≤ steps.old + length grid.now.nodes }
+    ensures steps { switched ≡ false
+        → steps.new ≤ steps.old + settle_work grid.now field.now judged.old judged.new }
+{
+    field_poses();
+    history_is_diagnosed();
+    diagnosis_is_one();
+    one_least_cost();
+    ledger_is_kept();
+    fed_rows_are_exact();
+    total_is_least();
+    judged.begin();
+    judge_field(grid, field, judged, switched, steps);
+    record_flipped(grid, judged, ledger, at);
 }
 
 impl Engine {
-    ghost use Rattle.std.specs.Prelude.{◌≡◌, ◌≤◌, ◌<◌, ◌+◌, ◌^◌, ℕ, true, false, List, [], ◌∷◌, length, map, Ok, Err, IfOk, OnErr};
+    ghost use Rattle.std.specs.Prelude.{◌≡◌, ◌≤◌, ◌<◌, ◌+◌, ◌^◌, ℕ, false, List, [], length, map, Ok, Err, IfOk, OnErr};
     ghost use Rattle.grid_model.specs.declared.history.Event.{Event};
     ghost use Rattle.grid_model.specs.declared.history.Refusal.{Refusal};
+    ghost use Rattle.history_rules.specs.StampTexts.{last_second};
     ghost use Rattle.history_rules.specs.Posed.{problem_after, refusal_of, joined, IsOfGrid};
-    ghost use Rattle.diagnosis.specs.Judgement.{IsSized, differences};
+    ghost use Rattle.diagnosis.specs.Judgement.{differences};
     ghost use Rattle.bound_table.specs.Tight.{tight_bounds};
     ghost use Rattle.bound_table.specs.Sound.{IsTableOf};
-    ghost use Rattle.field_state.specs.Fielded.{IsFieldAfter, IsField};
     ghost use Rattle.field_state.specs.Acted.{is_switching};
     ghost use Rattle.outage_engine.specs.declared.Applied.{Applied};
-    ghost use Rattle.outage_engine.specs.Recording.{AreFlagsOf, IsLedgerAfter};
-    ghost use Rattle.outage_engine.specs.Settled.{CanBeSettled, settle_work};
     ghost use Rattle.outage_engine.specs.Work.{AreReachesAfter, event_work};
     ghost use Rattle.outage_engine.specs.Engined.{IsEngineAfter, IsEngine, answer_by};
 
@@ -87,7 +140,7 @@ impl Engine {
         ensures refused { OnErr result (self.new ≡ self.old) }
         ensures already { length self.old.grid.meters ≤ self.old.ledger.spare → result ≡ Ok tt }
         ensures after { (h : List Event) → IsEngineAfter h self.old → IsEngineAfter h self.new }
-        ensures engine { IsEngine self.old → IsEngine self.new }
+        ensures engine { IsEngine self.new }
     {
         self.ledger.reserve(self.grid.meters())
     }
@@ -99,77 +152,55 @@ impl Engine {
         self.ledger.spare()
     }
 
-    // The least cost of the field.
-    fn least_cost(&self) -> u64
-        ensures { result ≡ self.now.field.costs.total }
-    {
-        self.field.costs().total()
-    }
-
-    // Judges what the field poses after an event, and records which meters went dark or live at the
-    // time.
-    fn judge<L: Counter>(&mut self, at: Stamp, switched: bool, steps: &mut Steps<L>)
-        requires field { IsField self.old.grid self.old.field }
-        requires sized { IsSized (length self.old.grid.nodes) (length self.old.grid.devices) self.old.judged }
-        requires each { length self.old.ledger.meters ≡ length self.old.grid.meters }
-        requires settled { switched ≡ false → CanBeSettled self.old.grid self.old.field self.old.judged }
-        requires flags { AreFlagsOf self.old.grid self.old.judged.dark self.old.ledger }
-        requires spare { length self.old.grid.meters ≤ self.old.ledger.spare }
-        requires range { at.0 ≤ 253_402_300_799 }
-        ensures grid { self.new.grid ≡ self.old.grid }
-        ensures after { (h : List Event) (e : Event) → e.time ≡ at → IsFieldAfter self.old.grid (e ∷ h) self.old.field → IsLedgerAfter self.old.grid h self.old.ledger → IsEngineAfter (e ∷ h) self.new }
-        ensures changed { map (λ d. d.0) self.new.judged.changed ≡ differences self.old.judged.opened self.new.judged.opened }
-        ensures spare { self.old.ledger.spare ≤ self.new.ledger.spare + length self.old.grid.meters }
-        ensures anew { switched ≡ true → steps.new ≤ steps.old + length self.old.grid.nodes }
-        ensures steps { switched ≡ false → steps.new ≤ steps.old + settle_work self.old.grid self.old.field self.old.judged self.new.judged }
-    {
-        field_poses();
-        history_is_diagnosed();
-        diagnosis_is_one();
-        one_least_cost();
-        ledger_is_kept();
-        fed_rows_are_exact();
-        total_is_least();
-        self.judged.begin();
-        judge_field(&self.grid, &self.field, &mut self.judged, switched, steps);
-        record_flipped(&self.grid, &self.judged, &mut self.ledger, at);
-    }
-
     /// Applies an event, or refuses it by the first rule that it breaks: then everything stands as
     /// before, and no step is taken. Takes no memory, but room for a line a meter.
     ///
-    /// An event that is no switching takes at most six steps for each repair and for each device on the
-    /// walk that it repairs, which is no longer than the reach of its node, and one for each device at a
-    /// node that flips, whatever the size of the network. Nothing is said of the steps of a switching.
+    /// An event that is no switching takes at most six steps for each repair and six for each device
+    /// of its reach, which is for a meter the reach of its node and for a device the greater reach of
+    /// its two ends, and one for each device at a node that flips, whatever the size of the network.
+    /// Nothing is said of the steps of a switching.
     pub fn apply<L: Counter>(
         &mut self,
         event: Event,
         steps: &mut Steps<L>,
     ) -> Result<Applied, Refusal>
-        requires engine { IsEngine self.old }
         requires of_grid { IsOfGrid self.old.grid event.what }
-        requires range { event.time.0 ≤ 253_402_300_799 }
+        requires range { event.time.0 ≤ last_second }
         requires room { self.old.field.applied < 2 ^ 32 }
         requires spare { length self.old.grid.meters ≤ self.old.ledger.spare }
         ensures grid { self.new.grid ≡ self.old.grid }
-        ensures answer { (h : List Event) → IsEngineAfter h self.old → result ≡ answer_by self.old.grid h event (refusal_of self.old.grid h event) }
+        ensures answer { (h : List Event) → IsEngineAfter h self.old
+            → result ≡ answer_by self.old.grid h event (refusal_of self.old.grid h event) }
         ensures refused { (rule : Refusal) → result ≡ Err rule → self.new ≡ self.old }
         ensures idle { (rule : Refusal) → result ≡ Err rule → steps.new ≡ steps.old }
-        ensures after { (h : List Event) → IsEngineAfter h self.old → IsEngineAfter (joined self.old.grid h event) self.new }
+        ensures after { (h : List Event) → IsEngineAfter h self.old
+            → IsEngineAfter (joined self.old.grid h event) self.new }
         ensures engine { IsEngine self.new }
-        ensures changed { (applied : Applied) → result ≡ Ok applied → map (λ d. d.0) self.new.judged.changed ≡ differences self.old.judged.opened self.new.judged.opened }
-        ensures spare { self.old.ledger.spare ≤ self.new.ledger.spare + length self.old.grid.meters }
-        ensures steps { (h : List Event) (reach : ℕ → ℕ) → IsEngineAfter h self.old → AreReachesAfter self.old.grid h reach → is_switching event.what ≡ false
+        ensures changed { (applied : Applied) → result ≡ Ok applied
+            → map (λ d. d.0) self.new.judged.changed
+            ≡ differences self.old.judged.opened self.new.judged.opened }
+        ensures spare { self.old.ledger.spare
+            ≤ self.new.ledger.spare + length self.old.grid.meters }
+        ensures steps { (h : List Event) (reach : ℕ → ℕ) → IsEngineAfter h self.old
+            → AreReachesAfter self.old.grid h reach → is_switching event.what ≡ false
             → steps.new ≤ steps.old + event_work self.old.grid h event reach }
     {
         ledger_is_kept();
         changes_can_be_settled();
-        let cost_before = self.least_cost();
+        let cost_before = least_cost(&self.field);
         self.field.apply(&self.grid, event, steps)?;
-        self.judge(event.time, is_switching(event.what), steps);
+        judge(
+            &self.grid,
+            &self.field,
+            &mut self.judged,
+            &mut self.ledger,
+            event.time,
+            is_switching(event.what),
+            steps,
+        );
         Ok(Applied {
             cost_before,
-            cost_after: self.least_cost(),
+            cost_after: least_cost(&self.field),
         })
     }
 
@@ -182,7 +213,8 @@ impl Engine {
 
     /// The field after the events.
     pub fn field(&self) -> &Field
-        ensures { result.now ≡ self.now.field }
+        ensures field { result.now ≡ self.now.field }
+        ensures engine { IsEngine self.now }
     {
         &self.field
     }
@@ -196,15 +228,16 @@ impl Engine {
 
     /// The interruptions of the meters.
     pub fn ledger(&self) -> &Ledger
-        ensures { result.now ≡ self.now.ledger }
+        ensures ledger { result.now ≡ self.now.ledger }
+        ensures engine { IsEngine self.now }
     {
         &self.ledger
     }
 
     /// The bounds that show the least cost. An error says that memory ran out.
     pub fn bounds(&self, alloc: Global) -> Result<Bounds, AllocError>
-        requires { IsEngine self.now }
-        ensures tight { IfOk result (λ b. (h : List Event) → IsEngineAfter h self.now → b ≡ tight_bounds (problem_after self.now.grid h)) }
+        ensures tight { IfOk result (λ b. (h : List Event) → IsEngineAfter h self.now
+            → b ≡ tight_bounds (problem_after self.now.grid h)) }
         ensures of_network { IfOk result (λ b. IsTableOf self.now.grid b) }
     {
         field_poses();

@@ -2,7 +2,7 @@
 use Rattle.std.specs.Prelude.{ℕ, Bool, List, ◌==◌, ◌||◌, ◌+◌, ◌-◌, ◌^◌, min, length, nat_le}
 use Rattle.std.specs.List.{list_any}
 
--- an output: at most `piece` bytes are taken by one write, and `room` in all; `calls` numbers the next write
+-- an output: at most `piece` bytes are taken by one write, and `room` in all; `calls` numbers the next call, a write or a flush
 pub record SinkState : Type 0 where
   pub bytes : List ℕ
   pub failing : List ℕ
@@ -11,7 +11,7 @@ pub record SinkState : Type 0 where
   pub calls : ℕ
   pub faults : ℕ
 
--- the next write is one of those that fail
+-- the next call is one of those that fail
 abbrev pub call_fails : SinkState → Bool
 call_fails sink = list_any (λ n. n == sink.calls) sink.failing
 
@@ -27,6 +27,6 @@ write_fails sink = call_fails sink || is_full sink
 abbrev pub next_count : SinkState → ℕ → ℕ
 next_count sink n = min (min n sink.piece) (sink.room - length sink.bytes)
 
--- the number of the write after the next: it stays at its last value
+-- the number of the call after the next: it stays at its last value
 abbrev pub next_call : ℕ → ℕ
 next_call call = min (call + 1) (2 ^ 64 - 1)

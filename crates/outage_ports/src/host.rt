@@ -1,8 +1,8 @@
 //! Files, standard input and standard output: the trusted edge. These tell nothing of content.
-ghost use Rattle.std.specs.Prelude.{◌≡◌, ◌<◌, ◌≤◌, true, false, None, length, take, drop, IfOk, IfSome, IsNone, OnOk, OnErr};
+ghost use Rattle.std.specs.Prelude.{◌≡◌, ◌<◌, ◌≤◌, true, false, None, length, IfOk, IsOk, OnOk, OnErr};
 ghost use Rattle.std.specs.Io.KnownBytes.{WriteAppends};
 ghost use Rattle.outage_ports.specs.Causes.{HasCause, one_more};
-ghost use Rattle.outage_ports.specs.Bytes.{Starts, FillsFront, Takes};
+ghost use Rattle.outage_ports.specs.Bytes.{Starts, Takes};
 
 use crate::faults::fault;
 use crate::{Failed, Shelf, Sink};
@@ -92,20 +92,14 @@ impl<R: Print> Sink for HostSink<'_, R> {
             Err(_) => fault(&mut self.faults),
         }
     }
-}
 
-// Reads into a buffer of its own and copies what came, so that the rest of `into` stays.
-fn read_front<R: Read>(from: &mut R, into: &mut [u8]) -> Option<usize>
-    ensures { IfSome result (λ n. FillsFront n into.old into.new) }
-{
-    let mut piece = [0u8; 4096];
-    let room = into.len().min(4096);
-    match from.read(&mut piece[..room]) {
-        Ok(count) => {
-            into[..count].copy_from_slice(&piece[..count]);
-            Some(count)
-        }
-        Err(_) => None,
+    // Nothing is held back: each write gives its bytes to the system.
+    fn flush(&mut self) -> Result<(), Failed>
+        ensures ok { IsOk result }
+        ensures same { self.new ≡ self.old }
+        ensures cause { HasCause self.old self.new result }
+    {
+        Ok(())
     }
 }
 
@@ -143,18 +137,18 @@ impl<R: Files + Input> Shelf for HostShelf<'_, R> {
         requires room { 0 < length into.old }
         requires begun { self.old.started ≡ true }
         ensures begun { self.new.started ≡ true }
-        ensures front { IfOk result (λ n. FillsFront n into.old into.new) }
+        ensures bound { IfOk result (λ n. n ≤ length into.old) }
         ensures cause { HasCause self.old.faults self.new.faults result }
         ensures count { OnErr result (self.new.faults ≡ one_more self.old.faults) }
     {
-        let count = match &mut self.source {
-            None => None,
-            Some(Source::File(file)) => read_front(file, into),
-            Some(Source::Input(input)) => read_front(input, into),
+        let came = match &mut self.source {
+            None => return fault(&mut self.faults),
+            Some(Source::File(file)) => file.read(into),
+            Some(Source::Input(input)) => input.read(into),
         };
-        match count {
-            Some(count) => Ok(count),
-            None => fault(&mut self.faults),
+        match came {
+            Ok(count) => Ok(count),
+            Err(_) => fault(&mut self.faults),
         }
     }
 }

@@ -14,6 +14,9 @@ pub use memory_sink::MemorySink;
 pub use shelf::Shelf;
 pub use sink::{Sink, put_all};
 
+/// How many bytes the program asks for with one read.
+pub const PIECE: usize = 65_536;
+
 /// A call to the outside failed.
 #[derive(Clone, Copy, Debug, PartialEq, Eq)]
 pub struct Failed;

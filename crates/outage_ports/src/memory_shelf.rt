@@ -2,7 +2,7 @@
 ghost use Rattle.std.specs.Prelude.{◌≡◌, ◌↔◌, ◌<◌, ◌≤◌, ◌-◌, ◌+◌, ◌++◌, true, is_some, min, map, option_map, IsErr, IfOk, position, slice_get, OnOk, OnErr, Some, None, [], length, take, drop};
 ghost use Rattle.std.specs.List.{list_any};
 ghost use Rattle.outage_ports.specs.Causes.{HasCause, one_more};
-ghost use Rattle.outage_ports.specs.Bytes.{Starts, FillsFront, Takes};
+ghost use Rattle.outage_ports.specs.Bytes.{Starts, Takes};
 ghost use Rattle.outage_ports.specs.MemoryShelf.{has_name, file_of, file_named, bars_start, bars_read, left_of, start_fails, read_fails, started_named, moved_by, next_count};
 
 use crate::faults::fault;
@@ -145,7 +145,8 @@ impl Shelf for MemoryShelf {
         requires begun { is_some self.old.started ≡ true }
         ensures files { Some (file_named self.new.files) ≡ Some (file_named self.old.files) }
         ensures begun { is_some self.new.started ≡ true }
-        ensures front { IfOk result (λ n. FillsFront n into.old into.new) }
+        ensures bound { IfOk result (λ n. n ≤ length into.old) }
+        ensures rest { IfOk result (λ n. drop n into.new ≡ drop n into.old) }
         ensures bytes { IfOk result (λ n. Takes (left_of self.old) (left_of self.new) n into.new) }
         ensures same_left { OnErr result (left_of self.new ≡ left_of self.old) }
         ensures cause { HasCause self.old.faults self.new.faults result }
@@ -173,7 +174,7 @@ fn copy_front(from: &[u8], most: usize, into: &mut [u8]) -> usize
     requires room { 0 < length into.old }
     requires most { 0 < most }
     ensures count { result ≡ min (min (length from.now) (length into.old)) most }
-    ensures front { FillsFront result into.old into.new }
+    ensures rest { drop result into.new ≡ drop result into.old }
     ensures bytes { take result into.new ≡ take result from.now }
 {
     let count = from.len().min(into.len()).min(most);

@@ -1,9 +1,9 @@
 //! An output in memory, for tests.
-ghost use Rattle.std.specs.Prelude.{◌≡◌, ◌≤◌, ◌<◌, ◌↔◌, ◌++◌, ◌==◌, [], Some, true, length, take, IfOk, OnErr, IsErr};
+ghost use Rattle.std.specs.Prelude.{◌≡◌, ◌≤◌, ◌<◌, ◌↔◌, ◌++◌, ◌==◌, [], Some, true, length, take, IfOk, OnOk, OnErr, IsErr};
 ghost use Rattle.std.specs.List.{list_any};
 ghost use Rattle.std.specs.Io.KnownBytes.{WriteAppends};
 ghost use Rattle.outage_ports.specs.Causes.{HasCause, one_more};
-ghost use Rattle.outage_ports.specs.MemorySink.{write_fails, next_count, next_call};
+ghost use Rattle.outage_ports.specs.MemorySink.{call_fails, write_fails, next_count, next_call};
 
 use crate::faults::fault;
 use crate::{Failed, Sink};
@@ -35,8 +35,8 @@ impl Model for MemorySink {
 
 impl MemorySink {
     /// An empty output with this room, of which one write takes at most `piece` bytes, and the
-    /// writes of these numbers fail. The writes are numbered from 0, and any past the number
-    /// 2^64 - 1 have this number too. Fails where memory for the room is wanting.
+    /// calls of these numbers fail. Writes and flushes are numbered together from 0, and any past
+    /// the number 2^64 - 1 have this number too. Fails where memory for the room is wanting.
     pub fn new(
         alloc: Global,
         failing: Vec<u64>,
@@ -61,18 +61,22 @@ impl MemorySink {
         })
     }
 
+    // Numbers a call, and says whether it is one of those that fail.
+    fn begin_call(&mut self) -> bool
+        ensures fails { result ≡ call_fails self.old }
+        ensures numbered { self.new ≡ record self.old { calls = next_call self.old.calls } }
+    {
+        let call = self.calls;
+        self.calls = call.saturating_add(1);
+        self.failing.iter().any(|failing| *failing == call)
+    }
+
     /// The bytes that were written.
     pub fn bytes(&self) -> &[u8]
         ensures { result.now ≡ self.now.bytes }
     {
         &self.bytes
     }
-}
-
-fn contains_call(failing: &[u64], call: u64) -> bool
-    ensures { result ≡ list_any (λ n. n == call) failing.now }
-{
-    failing.iter().any(|n| *n == call)
 }
 
 impl Sink for MemorySink {
@@ -91,8 +95,7 @@ impl Sink for MemorySink {
         ensures ok { IfOk result (λ n. self.new ≡ record self.old { bytes = self.old.bytes ++ take n piece.now; calls = next_call self.old.calls }) }
         ensures err { OnErr result (self.new ≡ record self.old { calls = next_call self.old.calls; faults = one_more self.old.faults }) }
     {
-        let fails = contains_call(&self.failing, self.calls);
-        self.calls = self.calls.saturating_add(1);
+        let fails = self.begin_call();
         let left = self.room - self.bytes.len();
         if fails || left == 0 {
             return fault(&mut self.faults);
@@ -100,5 +103,18 @@ impl Sink for MemorySink {
         let count = piece.len().min(self.piece).min(left);
         self.bytes.extend_from_slice(&piece[..count]).unwrap();
         Ok(count)
+    }
+
+    fn flush(&mut self) -> Result<(), Failed>
+        ensures bytes { Some self.new.bytes ≡ Some self.old.bytes }
+        ensures cause { HasCause self.old.faults self.new.faults result }
+        ensures fails { IsErr result ↔ (call_fails self.old ≡ true) }
+        ensures ok { OnOk result (self.new ≡ record self.old { calls = next_call self.old.calls }) }
+        ensures err { OnErr result (self.new ≡ record self.old { calls = next_call self.old.calls; faults = one_more self.old.faults }) }
+    {
+        if self.begin_call() {
+            return fault(&mut self.faults);
+        }
+        Ok(())
     }
 }

@@ -1,7 +1,7 @@
 //! A place that files are read from by name.
 ghost use Rattle.std.specs.Prelude.{◌≡◌, ◌≤◌, ◌<◌, List, ℕ, Bool, true, Option, length, IfOk, OnOk, OnErr};
 ghost use Rattle.outage_ports.specs.Causes.{HasCause};
-ghost use Rattle.outage_ports.specs.Bytes.{Files, Starts, FillsFront, Takes};
+ghost use Rattle.outage_ports.specs.Bytes.{Files, Starts, Takes};
 
 use crate::Failed;
 
@@ -34,14 +34,14 @@ pub trait Shelf {
         ensures cause { HasCause (faults self.old) (faults self.new) result };
 
     /// Reads the next bytes of the started file into the front of the buffer, and answers how
-    /// many: none exactly at the end. Where it fails, no byte of the file is passed over, and what
-    /// the buffer then holds is left open.
+    /// many: none exactly at the end. What the rest of the buffer then holds is left open, as is all
+    /// of it where the read fails; no byte of the file is passed over then.
     fn read(&mut self, into: &mut [u8]) -> Result<usize, Failed>
         requires room { 0 < length into.old }
         requires begun { started self.old ≡ true }
         ensures files { files self.new ≡ files self.old }
         ensures begun { started self.new ≡ true }
-        ensures front { IfOk result (λ n. FillsFront n into.old into.new) }
+        ensures bound { IfOk result (λ n. n ≤ length into.old) }
         ensures bytes { IfOk result (λ n. Takes (left self.old) (left self.new) n into.new) }
         ensures same_left { OnErr result (left self.new ≡ left self.old) }
         ensures cause { HasCause (faults self.old) (faults self.new) result };

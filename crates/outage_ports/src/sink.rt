@@ -22,6 +22,12 @@ pub trait Sink {
         ensures bound { IfOk result (λ n. n ≤ length piece.now) }
         ensures bytes { WriteAppends (written self.old) (written self.new) result piece.now }
         ensures cause { HasCause (faults self.old) (faults self.new) result };
+
+    /// Hands on what was written to whoever reads it, where the object holds it back. It appends
+    /// nothing, whether it fails or not.
+    fn flush(&mut self) -> Result<(), Failed>
+        ensures bytes { written self.new ≡ written self.old }
+        ensures cause { HasCause (faults self.old) (faults self.new) result };
 }
 
 /// Writes the whole piece: an empty one with no call. Where it fails, it has written a prefix of it.

@@ -101,7 +101,7 @@ impl Forest {
     }
 
     /// The root of the tree of a node: its source where it is fed.
-    pub fn root_of(&self, n: NodeId) -> NodeId
+    pub fn root_of(&self, grid: &Grid, n: NodeId) -> NodeId
         requires { n.0 < length self.now.roots }
         ensures { result.0 ≡ root_in self.now.roots n.0 }
     {
@@ -114,7 +114,7 @@ impl Forest {
         requires node { n.0 < length grid.now.nodes }
         ensures { result ≡ is_live (network_in grid.now (λ d. slice_index_or self.now.closed d false)) nothing n.0 }
     {
-        grid.is_source(self.root_of(n))
+        grid.is_source(self.root_of(grid, n))
     }
 
     /// Whether closing a device closes a loop, all sources being one point: a walk joins its ends, or
@@ -127,7 +127,8 @@ impl Forest {
         live_is_a_walk();
         loop_is_a_walk();
         let (from, to) = grid.ends(d);
-        self.root_of(from) == self.root_of(to) || (self.is_fed(grid, from) && self.is_fed(grid, to))
+        self.root_of(grid, from) == self.root_of(grid, to)
+            || (self.is_fed(grid, from) && self.is_fed(grid, to))
     }
 
     /// Opens or closes a device, and works all parents and roots out anew. Takes no memory.
@@ -149,7 +150,7 @@ impl Forest {
         requires of_grid { IsForestOf grid.now self.now.closed self.now }
         requires device { d.0 < length grid.now.devices }
         requires closed { slice_index_or self.now.closed d.0 false ≡ true }
-        requires room { length into.old ≡ length grid.now.nodes }
+        requires room { length grid.now.nodes ≤ length into.old }
         ensures count { result ≤ length into.new }
         ensures length { length into.new ≡ length into.old }
         ensures nodes { (k : ℕ) → k < result → node_at into.new k < length grid.now.nodes }
@@ -196,7 +197,7 @@ impl Forest {
     // answers how many they are then.
     fn list_below(&self, grid: &Grid, place: usize, count: usize, into: &mut [NodeId]) -> usize
         requires of_grid { IsForestOf grid.now self.now.closed self.now }
-        requires room { length into.old ≡ length grid.now.nodes }
+        requires room { length grid.now.nodes ≤ length into.old }
         requires place { place < count }
         requires count { count ≤ length into.old }
         requires listing { (d : ℕ) × IsListing (switched grid.now self.now.closed) self.now d into.old count place }

@@ -7,3 +7,6 @@ pub mod ReportLines
 pub mod LinesBefore
 pub mod OwnReport
 pub mod Exchanges
+pub mod PrintedCosts
+pub mod Told
+pub mod ShownBounds

@@ -1,7 +1,10 @@
 pub mod Pieces
+pub mod Puts
+pub mod ChangeRows
 pub mod Ranges
 pub mod Times
 pub mod OfNetwork
 pub mod Told
 pub mod CrewRows
 pub mod IndexRows
+pub mod CountedLines

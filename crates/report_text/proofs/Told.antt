@@ -26,7 +26,7 @@ use Rattle.interruption_ledger.specs.Ledgered.{Ledgered, interrupted_at, lines_k
 use Rattle.interruption_ledger.specs.Laws.{LedgerIsKept}
 use Rattle.field_state.specs.Fielded.{Fielded, IsFieldAfter, pull_after}
 use Rattle.outage_engine.specs.Engined.{Engined, IsEngineAfter}
-use Rattle.report_text.specs.Rows.{IsOutageOf, IsLineOf, last_word, first_rows, contradicted}
+use Rattle.report_text.specs.Rows.{IsOutageOf, IsLineOf, most_applied, last_word, first_rows, contradicted}
 use Rattle.report_text.proofs.Ranges.{flat_map_more, flat_map_same}
 use Rattle.report_text.proofs.Times.{AreBy, are_by}
 use Rattle.report_text.proofs.OfNetwork.{outages_are, lines_are}
@@ -135,7 +135,7 @@ module _ (h : List Event) (e : Engined) (after : IsEngineAfter h e) where
       (subst (All (IsLineBy e.grid (now h))) (sym (is ∙ lines_told h e after kept)) (ledger_is timely).lines))
 
   -- and few enough to be counted
-  pub lines_few : (lines : List Line) → LedgerIsTimely → LedgerIsKept → e.field.applied ≤ 2000000 → lines ≡ lines_kept e.ledger → length lines ≤ 1000000000000
+  pub lines_few : (lines : List Line) → LedgerIsTimely → LedgerIsKept → e.field.applied ≤ most_applied → lines ≡ lines_kept e.ledger → length lines ≤ 1000000000000
   lines_few lines timely kept few is =
       let count = after.field.count in
       let most : length e.grid.meters * length h ≤ 500000 * 2000000 = mul-le (length e.grid.meters) (length h) 500000 2000000 after.field.sound.few_meters (omega arith) in

@@ -10,6 +10,10 @@ use Rattle.evidence.specs.declared.Pull.{Pull}
 use Rattle.history_rules.specs.StampTexts.{last_second}
 use Rattle.history_rules.specs.Report.{second_word, unexplained_by}
 
+-- a report tells of no more events than these
+abbrev pub most_applied : ℕ
+most_applied = 2000000
+
 -- the second has a text
 abbrev pub IsWritable : Stamp → Type 0
 IsWritable t = t.0 ≤ last_second

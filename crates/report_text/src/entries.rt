@@ -1,17 +1,22 @@
 //! The text of one line's entry.
-ghost use Rattle.std.specs.Prelude.{◌≡◌, ◌<◌, ◌++◌, ◌∷◌, [], true, false, length, All, IfSome, IsNone, OnOk, codes, decimal};
+ghost use Rattle.std.specs.Prelude.{◌≡◌, ◌≤◌, ◌<◌, ◌++◌, ◌∷◌, [], List, true, false, length, All, OnOk, OnErr, IsErrOf, codes, decimal};
+ghost use Rattle.std.specs.Io.KnownBytes.{Appends};
+ghost use Rattle.grid_model.specs.declared.history.Event.{Event};
+ghost use Rattle.outage_ports.specs.Bytes.{AppendsPrefix};
+ghost use Rattle.outage_ports.specs.Causes.{Rose};
 ghost use Rattle.event_rules.specs.Rows.{row};
-ghost use Rattle.history_rules.specs.Output.{read_rule_word, refusal_word, rule_word, refused_row, cost_row};
-ghost use Rattle.bound_table.specs.Words.{spelling};
-ghost use Rattle.report_text.specs.Entered.{rule_of, device_rows};
+ghost use Rattle.history_rules.specs.Output.{read_rule_word, refusal_word, rule_word, refused_row, cost_row, changes};
+ghost use Rattle.report_text.specs.Putting.{DidPut};
+ghost use Rattle.report_text.specs.Entered.{IsLastChange, AppliedIsLastChange, rule_of, device_row, device_rows};
+ghost use Rattle.report_text.specs.declared.put.PutFault.TheVariants.{Write};
 
+use crate::PutFault;
 use bound_table::{ReportWord, text_of};
-use diagnosis::Judged;
 use event_rules::ReadRule;
-use grid_model::{Grid, Refusal};
-use line_text::put_decimal;
-use outage_engine::Applied;
-use std::alloc::AllocError;
+use grid_model::{DeviceId, Refusal};
+use itoa::Buffer;
+use outage_engine::{Applied, Engine};
+use outage_ports::{Failed, Sink, put_all};
 use word_tables::{place_of, rule_words};
 
 /// The rule by which a line is refused.
@@ -57,86 +62,163 @@ fn word_of(rule: LineRule) -> &'static [u8]
     }
 }
 
-// Appends a word, a comma, the number of a line and a comma.
-fn put_front(out: &mut Vec<u8>, word: ReportWord, line: u32) -> Result<(), AllocError>
-    ensures { OnOk result (out.new.items ≡ out.old.items ++ spelling word ++ 44 ∷ decimal line ++ 44 ∷ []) }
+// Writes a text.
+fn put_text<K: Sink>(out: &mut K, text: &[u8]) -> Result<(), Failed>
+    ensures { DidPut (K.written out.old) (K.written out.new) (K.faults out.old) (K.faults out.new)
+        result text.now }
 {
-    out.extend_from_slice(text_of(word))?;
-    out.push(b',')?;
-    put_decimal(out, u64::from(line))?;
-    out.push(b',')?;
-    Ok(())
+    put_all(out, text)
 }
 
-// Appends a row of a word, the number of a line and one more word.
-fn put_row(out: &mut Vec<u8>, word: ReportWord, line: u32, last: &[u8]) -> Result<(), AllocError>
-    ensures { OnOk result (out.new.items ≡ out.old.items ++ row (spelling word ∷ decimal line ∷ last.now ∷ [])) }
+// Writes a text and a comma.
+fn put_field<K: Sink>(out: &mut K, text: &[u8]) -> Result<(), Failed>
+    ensures { DidPut (K.written out.old) (K.written out.new) (K.faults out.old) (K.faults out.new)
+        result (text.now ++ 44 ∷ []) }
 {
-    put_front(out, word, line)?;
-    out.extend_from_slice(last)?;
-    out.push(b'\n')?;
-    Ok(())
+    put_text(out, text)?;
+    put_text(out, b",")
 }
 
-/// Appends that a line is refused, and by which rule.
-pub fn put_refused(out: &mut Vec<u8>, line: u32, rule: LineRule) -> Result<(), AllocError>
-    ensures { OnOk result (out.new.items ≡ out.old.items ++ refused_row line (rule_of rule)) }
+// Writes a text and the end of a line.
+fn put_last<K: Sink>(out: &mut K, text: &[u8]) -> Result<(), Failed>
+    ensures { DidPut (K.written out.old) (K.written out.new) (K.faults out.old) (K.faults out.new)
+        result (text.now ++ 10 ∷ []) }
 {
-    put_row(out, ReportWord::Refused, line, word_of(rule))
+    put_text(out, text)?;
+    put_text(out, b"\n")
 }
 
-// Appends the devices that changed and were opened before, or weren't.
-fn put_devices(
-    out: &mut Vec<u8>,
-    word: ReportWord,
+// Writes a row of a word, the number of a line and one more word.
+fn put_row<K: Sink>(out: &mut K, word: &[u8], line: u32, last: &[u8]) -> Result<(), Failed>
+    ensures { DidPut (K.written out.old) (K.written out.new) (K.faults out.old) (K.faults out.new)
+        result (row (word.now ∷ decimal line ∷ last.now ∷ [])) }
+{
+    let mut digits = Buffer::new();
+    put_field(out, word)?;
+    put_field(out, digits.format(line).as_bytes())?;
+    put_last(out, last)
+}
+
+// Writes a row of a device, where it was opened before a change, or where it wasn't.
+fn put_device<K: Sink>(
+    out: &mut K,
+    word: &[u8],
     line: u32,
-    grid: &Grid,
-    judged: &Judged,
+    engine: &Engine,
     was_opened: bool,
-) -> Result<(), AllocError>
-    requires each { length judged.now.opened ≡ length grid.now.devices }
-    requires known { All (λ d. d.0 < length grid.now.devices) judged.now.changed }
-    ensures { OnOk result (out.new.items ≡ out.old.items ++ device_rows grid.now (spelling word) line judged.now was_opened judged.now.changed) }
+    device: DeviceId,
+) -> Result<(), Failed>
+    requires each { length engine.now.judged.opened ≡ length engine.now.grid.devices }
+    requires known { device.0 < length engine.now.grid.devices }
+    ensures { DidPut (K.written out.old) (K.written out.new) (K.faults out.old) (K.faults out.new)
+        result (device_row engine.now word.now line was_opened device) }
 {
-    let changed = judged.changed();
+    if engine.judged().is_opened(device) == was_opened {
+        return Ok(());
+    }
+    put_row(out, word, line, engine.grid().device(device).name.text())
+}
+
+// Writes rows of the devices that changed and were opened before, or weren't.
+fn put_devices<K: Sink>(
+    out: &mut K,
+    word: &[u8],
+    line: u32,
+    engine: &Engine,
+    was_opened: bool,
+) -> Result<(), Failed>
+    requires each { length engine.now.judged.opened ≡ length engine.now.grid.devices }
+    requires known { All (λ d. d.0 < length engine.now.grid.devices) engine.now.judged.changed }
+    ensures { DidPut (K.written out.old) (K.written out.new) (K.faults out.old) (K.faults out.new)
+        result (device_rows engine.now word.now line was_opened engine.now.judged.changed) }
+{
+    let changed = engine.judged().changed();
     for device in changed {
-        if judged.is_opened(*device) != was_opened {
-            put_row(out, word, line, grid.device(*device).name.text())?;
-        }
+        put_device(out, word, line, engine, was_opened, *device)?;
     }
     Ok(())
 }
 
-// Appends the least cost after a line, where it isn't the one before.
-fn put_cost(out: &mut Vec<u8>, line: u32, applied: Applied) -> Result<(), AllocError>
-    ensures { OnOk result (out.new.items ≡ out.old.items ++ cost_row line applied.cost_before applied.cost_after) }
+// Writes the least cost after a line, where it isn't the one before.
+fn put_cost<K: Sink>(out: &mut K, line: u32, applied: Applied) -> Result<(), Failed>
+    ensures { DidPut (K.written out.old) (K.written out.new) (K.faults out.old) (K.faults out.new)
+        result (cost_row line applied.cost_before applied.cost_after) }
 {
     if applied.cost_before == applied.cost_after {
         return Ok(());
     }
-    put_front(out, ReportWord::Cost, line)?;
-    put_decimal(out, applied.cost_after)?;
-    out.push(b'\n')?;
-    Ok(())
+    let mut digits = Buffer::new();
+    let cost = digits.format(applied.cost_after).as_bytes();
+    put_row(out, text_of(ReportWord::Cost), line, cost)
 }
 
-/// Appends the devices that leave the diagnosis with a line, those that enter it, and the least cost
-/// where that changes.
-pub fn put_changes(
-    out: &mut Vec<u8>,
+// Writes what changed with a line, by what the engine lists.
+fn put_listed<K: Sink>(
+    out: &mut K,
+    engine: &Engine,
     line: u32,
-    grid: &Grid,
-    judged: &Judged,
     applied: Applied,
-) -> Result<(), AllocError>
-    requires each { length judged.now.opened ≡ length grid.now.devices }
-    requires known { All (λ d. d.0 < length grid.now.devices) judged.now.changed }
-    ensures { OnOk result (out.new.items ≡ out.old.items
-        ++ device_rows grid.now (codes "leaves") line judged.now true judged.now.changed
-        ++ device_rows grid.now (codes "enters") line judged.now false judged.now.changed
-        ++ cost_row line applied.cost_before applied.cost_after) }
+) -> Result<(), Failed>
+    requires each { length engine.now.judged.opened ≡ length engine.now.grid.devices }
+    requires known { All (λ d. d.0 < length engine.now.grid.devices) engine.now.judged.changed }
+    ensures { DidPut (K.written out.old) (K.written out.new) (K.faults out.old) (K.faults out.new)
+        result (device_rows engine.now (codes "leaves") line true engine.now.judged.changed
+        ++ (device_rows engine.now (codes "enters") line false engine.now.judged.changed
+        ++ cost_row line applied.cost_before applied.cost_after)) }
 {
-    put_devices(out, ReportWord::Leaves, line, grid, judged, true)?;
-    put_devices(out, ReportWord::Enters, line, grid, judged, false)?;
+    put_devices(out, text_of(ReportWord::Leaves), line, engine, true)?;
+    put_devices(out, text_of(ReportWord::Enters), line, engine, false)?;
     put_cost(out, line, applied)
 }
+
+/// Writes the devices that leave the diagnosis with the event of a line and those that enter it, by
+/// number, and the least cost where that changes. The event is the last one that was applied, with
+/// this answer. Takes no memory of its own; where the sink fails, it has written a prefix.
+pub fn put_changes<K: Sink>(
+    out: &mut K,
+    engine: &Engine,
+    line: u32,
+    applied: Applied,
+) -> Result<(), PutFault>
+    requires last { (h : List Event) × (event : Event) × IsLastChange h event applied engine.now }
+    ensures whole { OnOk result ((h : List Event) (event : Event)
+        → IsLastChange h event applied engine.now
+        → Appends (K.written out.old) (K.written out.new)
+        (changes engine.now.grid line h (event ∷ h))) }
+    ensures part { (h : List Event) (event : Event)
+        → IsLastChange h event applied engine.now
+        → AppendsPrefix (K.written out.old) (K.written out.new)
+        (changes engine.now.grid line h (event ∷ h)) }
+    ensures later { K.faults out.old ≤ K.faults out.new }
+    ensures failed { IsErrOf result Write → Rose (K.faults out.old) (K.faults out.new) }
+    ensures only_failed { K.faults out.old < K.faults out.new → IsErrOf result Write }
+    ensures only_write { OnErr result (IsErrOf result Write) }
+{
+    match put_listed(out, engine, line, applied) {
+        Ok(()) => Ok(()),
+        Err(_) => Err(PutFault::Write),
+    }
+}
+
+/// Writes that a line is refused, and by which rule. Takes no memory of its own; where the sink
+/// fails, it has written a prefix.
+pub fn put_refused<K: Sink>(out: &mut K, line: u32, rule: LineRule) -> Result<(), PutFault>
+    ensures whole { OnOk result
+        (Appends (K.written out.old) (K.written out.new) (refused_row line (rule_of rule))) }
+    ensures part { AppendsPrefix (K.written out.old) (K.written out.new)
+        (refused_row line (rule_of rule)) }
+    ensures later { K.faults out.old ≤ K.faults out.new }
+    ensures failed { IsErrOf result Write → Rose (K.faults out.old) (K.faults out.new) }
+    ensures only_failed { K.faults out.old < K.faults out.new → IsErrOf result Write }
+    ensures only_write { OnErr result (IsErrOf result Write) }
+{
+    match put_row(out, text_of(ReportWord::Refused), line, word_of(rule)) {
+        Ok(()) => Ok(()),
+        Err(_) => Err(PutFault::Write),
+    }
+}
+
+/// An event that an engine applies is its last change, with the answer that it gave.
+pub fn applied_is_last_change()
+    ensures { AppliedIsLastChange }
+{}

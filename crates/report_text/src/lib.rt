@@ -7,5 +7,5 @@ mod report;
 mod rows;
 mod sections;
 
-pub use entries::{LineRule, put_changes, put_refused};
+pub use entries::{LineRule, applied_is_last_change, put_changes, put_refused};
 pub use put::{PutFault, put_bounds_part, put_report, put_summary};

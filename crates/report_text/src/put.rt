@@ -8,7 +8,8 @@ ghost use Rattle.bound_table.specs.Printed.{bounds_text};
 ghost use Rattle.bound_table.specs.Tight.{tight_bounds};
 ghost use Rattle.history_rules.specs.Posed.{problem_after};
 ghost use Rattle.history_rules.specs.Report.{report_text, summary_text};
-ghost use Rattle.outage_engine.specs.Engined.{IsEngineAfter, IsEngine};
+ghost use Rattle.outage_engine.specs.Engined.{IsEngineAfter};
+ghost use Rattle.report_text.specs.Rows.{most_applied};
 ghost use Rattle.report_text.specs.declared.put.PutFault.TheVariants.{Write};
 
 use crate::report::{report_of, summary_of};
@@ -52,12 +53,13 @@ pub fn put_report<K: Sink>(
     refused: u64,
     period: Period,
 ) -> Result<(), PutFault>
-    requires engine { IsEngine engine.now }
-    requires few { engine.now.field.applied ≤ 2_000_000 }
+    requires few { engine.now.field.applied ≤ most_applied }
     ensures whole { OnOk result ((h : List Event) → IsEngineAfter h engine.now
-        → Appends (K.written out.old) (K.written out.new) (report_text engine.now.grid period refused h)) }
+        → Appends (K.written out.old) (K.written out.new)
+        (report_text engine.now.grid period refused h)) }
     ensures part { (h : List Event) → IsEngineAfter h engine.now
-        → AppendsPrefix (K.written out.old) (K.written out.new) (report_text engine.now.grid period refused h) }
+        → AppendsPrefix (K.written out.old) (K.written out.new)
+        (report_text engine.now.grid period refused h) }
     ensures later { K.faults out.old ≤ K.faults out.new }
     ensures failed { IsErrOf result Write → Rose (K.faults out.old) (K.faults out.new) }
     ensures only_failed { K.faults out.old < K.faults out.new → IsErrOf result Write }
@@ -76,12 +78,13 @@ pub fn put_summary<K: Sink>(
     engine: &Engine,
     refused: u64,
 ) -> Result<(), PutFault>
-    requires engine { IsEngine engine.now }
-    requires few { engine.now.field.applied ≤ 2_000_000 }
+    requires few { engine.now.field.applied ≤ most_applied }
     ensures whole { OnOk result ((h : List Event) → IsEngineAfter h engine.now
-        → Appends (K.written out.old) (K.written out.new) (summary_text engine.now.grid refused h)) }
+        → Appends (K.written out.old) (K.written out.new)
+        (summary_text engine.now.grid refused h)) }
     ensures part { (h : List Event) → IsEngineAfter h engine.now
-        → AppendsPrefix (K.written out.old) (K.written out.new) (summary_text engine.now.grid refused h) }
+        → AppendsPrefix (K.written out.old) (K.written out.new)
+        (summary_text engine.now.grid refused h) }
     ensures later { K.faults out.old ≤ K.faults out.new }
     ensures failed { IsErrOf result Write → Rose (K.faults out.old) (K.faults out.new) }
     ensures only_failed { K.faults out.old < K.faults out.new → IsErrOf result Write }
@@ -94,9 +97,9 @@ pub fn put_summary<K: Sink>(
 
 // The bounds part of an engine as one text. An error says that memory ran out.
 fn bounds_part_of(alloc: Global, engine: &Engine) -> Result<Vec<u8>, AllocError>
-    requires { IsEngine engine.now }
     ensures { IfOk result (λ text. (h : List Event) → IsEngineAfter h engine.now
-        → text.items ≡ bounds_text engine.now.grid (tight_bounds (problem_after engine.now.grid h))) }
+        → text.items
+        ≡ bounds_text engine.now.grid (tight_bounds (problem_after engine.now.grid h))) }
 {
     let bounds = engine.bounds(alloc)?;
     put_bounds(alloc, engine.grid(), &bounds)
@@ -105,11 +108,12 @@ fn bounds_part_of(alloc: Global, engine: &Engine) -> Result<Vec<u8>, AllocError>
 /// Writes the bounds part: the lines that show the least cost after all events. Takes its memory
 /// before it writes; where the sink fails, it has written a prefix of the part.
 pub fn put_bounds_part<K: Sink>(alloc: Global, out: &mut K, engine: &Engine) -> Result<(), PutFault>
-    requires { IsEngine engine.now }
     ensures whole { OnOk result ((h : List Event) → IsEngineAfter h engine.now
-        → Appends (K.written out.old) (K.written out.new) (bounds_text engine.now.grid (tight_bounds (problem_after engine.now.grid h)))) }
+        → Appends (K.written out.old) (K.written out.new)
+        (bounds_text engine.now.grid (tight_bounds (problem_after engine.now.grid h)))) }
     ensures part { (h : List Event) → IsEngineAfter h engine.now
-        → AppendsPrefix (K.written out.old) (K.written out.new) (bounds_text engine.now.grid (tight_bounds (problem_after engine.now.grid h))) }
+        → AppendsPrefix (K.written out.old) (K.written out.new)
+        (bounds_text engine.now.grid (tight_bounds (problem_after engine.now.grid h))) }
     ensures later { K.faults out.old ≤ K.faults out.new }
     ensures failed { IsErrOf result Write → Rose (K.faults out.old) (K.faults out.new) }
     ensures only_failed { K.faults out.old < K.faults out.new → IsErrOf result Write }

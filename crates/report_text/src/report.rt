@@ -2,7 +2,8 @@
 ghost use Rattle.std.specs.Prelude.{◌≡◌, ◌≤◌, ◌++◌, List, OnOk, IfOk};
 ghost use Rattle.grid_model.specs.declared.history.Event.{Event};
 ghost use Rattle.history_rules.specs.Report.{first_rows_after, report_text, summary_text};
-ghost use Rattle.outage_engine.specs.Engined.{IsEngineAfter, IsEngine};
+ghost use Rattle.outage_engine.specs.Engined.{IsEngineAfter};
+ghost use Rattle.report_text.specs.Rows.{most_applied};
 
 use crate::rows::{add_first_rows, add_last_row};
 use crate::sections::{
@@ -17,8 +18,8 @@ use std::alloc::{AllocError, Global};
 
 // The first three rows.
 fn add_head(text: &mut Vec<u8>, engine: &Engine, refused: u64) -> Result<(), AllocError>
-    requires { IsEngine engine.now }
-    ensures { OnOk result ((h : List Event) → IsEngineAfter h engine.now → text.new.items ≡ text.old.items ++ first_rows_after engine.now.grid refused h) }
+    ensures { OnOk result ((h : List Event) → IsEngineAfter h engine.now
+        → text.new.items ≡ text.old.items ++ first_rows_after engine.now.grid refused h) }
 {
     let field = engine.field();
     add_first_rows(
@@ -37,9 +38,9 @@ pub(crate) fn report_of(
     refused: u64,
     period: Period,
 ) -> Result<Vec<u8>, AllocError>
-    requires engine { IsEngine engine.now }
-    requires few { engine.now.field.applied ≤ 2_000_000 }
-    ensures { IfOk result (λ text. (h : List Event) → IsEngineAfter h engine.now → text.items ≡ report_text engine.now.grid period refused h) }
+    requires { engine.now.field.applied ≤ most_applied }
+    ensures { IfOk result (λ text. (h : List Event) → IsEngineAfter h engine.now
+        → text.items ≡ report_text engine.now.grid period refused h) }
 {
     history_is_timely();
     ledger_is_kept();
@@ -66,9 +67,9 @@ pub(crate) fn summary_of(
     engine: &Engine,
     refused: u64,
 ) -> Result<Vec<u8>, AllocError>
-    requires engine { IsEngine engine.now }
-    requires few { engine.now.field.applied ≤ 2_000_000 }
-    ensures { IfOk result (λ text. (h : List Event) → IsEngineAfter h engine.now → text.items ≡ summary_text engine.now.grid refused h) }
+    requires { engine.now.field.applied ≤ most_applied }
+    ensures { IfOk result (λ text. (h : List Event) → IsEngineAfter h engine.now
+        → text.items ≡ summary_text engine.now.grid refused h) }
 {
     history_is_timely();
     ledger_is_kept();

@@ -7,7 +7,8 @@ ghost use Rattle.history_rules.specs.Ledger.{IsLineBy};
 ghost use Rattle.history_rules.specs.Crew.{CanBeOrdered, crew_order};
 ghost use Rattle.history_rules.specs.StampTexts.{last_second};
 ghost use Rattle.history_rules.specs.Report.{outage_row, crew_rows, unexplained_row, line_row, index_rows};
-ghost use Rattle.outage_engine.specs.Engined.{IsEngineAfter, IsEngine};
+ghost use Rattle.indices_1366.specs.Countable.{most_lines};
+ghost use Rattle.outage_engine.specs.Engined.{IsEngineAfter};
 ghost use Rattle.report_text.specs.Rows.{IsOutageOf, IsLineOf};
 
 use crate::rows::{add_contradicted, add_crew, add_index, add_line, add_outage};
@@ -25,7 +26,8 @@ pub(crate) fn add_outage_rows(
     outages: &[Outage],
 ) -> Result<(), AllocError>
     requires { All (IsOutageOf grid.now) outages.now }
-    ensures { OnOk result (text.new.items ≡ text.old.items ++ flat_map (outage_row grid.now) outages.now) }
+    ensures { OnOk result (text.new.items
+        ≡ text.old.items ++ flat_map (outage_row grid.now) outages.now) }
 {
     for outage in outages {
         add_outage(text, grid, outage)?;
@@ -42,7 +44,8 @@ pub(crate) fn add_crew_rows(
 ) -> Result<(), AllocError>
     requires known { All (IsOutageOf grid.now) outages.now }
     requires ordered { CanBeOrdered outages.now }
-    ensures { OnOk result (text.new.items ≡ text.old.items ++ crew_rows grid.now 1 (crew_order outages.now)) }
+    ensures { OnOk result (text.new.items
+        ≡ text.old.items ++ crew_rows grid.now 1 (crew_order outages.now)) }
 {
     let places = order(alloc, outages)?;
     let mut number = 0;
@@ -55,9 +58,9 @@ pub(crate) fn add_crew_rows(
 
 // What the reports of a meter weigh that its judgement contradicts.
 fn add_meter_row(text: &mut Vec<u8>, engine: &Engine, meter: MeterId) -> Result<(), AllocError>
-    requires engine { IsEngine engine.now }
-    requires meter { meter.0 < length engine.now.grid.meters }
-    ensures { OnOk result ((h : List Event) → IsEngineAfter h engine.now → text.new.items ≡ text.old.items ++ unexplained_row engine.now.grid h meter.0) }
+    requires { meter.0 < length engine.now.grid.meters }
+    ensures { OnOk result ((h : List Event) → IsEngineAfter h engine.now
+        → text.new.items ≡ text.old.items ++ unexplained_row engine.now.grid h meter.0) }
 {
     ledger_is_kept();
     let is_dark = engine.ledger().is_dark(meter);
@@ -67,9 +70,10 @@ fn add_meter_row(text: &mut Vec<u8>, engine: &Engine, meter: MeterId) -> Result<
 
 /// A row for each meter whose reports the diagnosis contradicts.
 pub(crate) fn add_unexplained(text: &mut Vec<u8>, engine: &Engine) -> Result<(), AllocError>
-    requires { IsEngine engine.now }
-    ensures { OnOk result ((h : List Event) → IsEngineAfter h engine.now → text.new.items ≡ text.old.items
-        ++ flat_map (unexplained_row engine.now.grid h) (range_with_len 0 (length engine.now.grid.meters))) }
+    ensures { OnOk result ((h : List Event) → IsEngineAfter h engine.now
+        → text.new.items ≡ text.old.items
+        ++ flat_map (unexplained_row engine.now.grid h)
+        (range_with_len 0 (length engine.now.grid.meters))) }
 {
     let meters = engine.grid().meters();
     for m in 0..meters {
@@ -85,7 +89,8 @@ pub(crate) fn add_line_rows(
     lines: &[Line],
 ) -> Result<(), AllocError>
     requires { All (IsLineOf grid.now) lines.now }
-    ensures { OnOk result (text.new.items ≡ text.old.items ++ flat_map (line_row grid.now) lines.now) }
+    ensures { OnOk result (text.new.items
+        ≡ text.old.items ++ flat_map (line_row grid.now) lines.now) }
 {
     for line in lines {
         add_line(text, grid, line)?;
@@ -104,8 +109,9 @@ pub(crate) fn add_index_rows(
 ) -> Result<(), AllocError>
     requires second { now.0 ≤ last_second }
     requires lines { All (IsLineBy grid.now now.0) lines.now }
-    requires count { length lines.now ≤ 1_000_000_000_000 }
-    ensures { OnOk result (text.new.items ≡ text.old.items ++ index_rows grid.now period now.0 lines.now) }
+    requires count { length lines.now ≤ most_lines }
+    ensures { OnOk result (text.new.items
+        ≡ text.old.items ++ index_rows grid.now period now.0 lines.now) }
 {
     let indices = totals(grid, lines, now, period);
     add_index(alloc, text, b"saifi", indices.saifi)?;

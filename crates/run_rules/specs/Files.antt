@@ -69,10 +69,6 @@ pub record HasTooManyBytes (files : Files) (name : List ℕ) (bytes : List ℕ) 
 abbrev pub lines_taken : List ℕ → List (List ℕ)
 lines_taken bytes = before_counted most_event_lines (lines_within most_events bytes)
 
--- these bytes stand at the front of the file; none do where there is no file
-abbrev pub IsFrontOf : Files → List ℕ → List ℕ → Type 0
-IsFrontOf files name front = (front ≡ []) ⊎ ((rest : List ℕ) × (files name ≡ Some (front ++ rest)))
-
 -- the report has these bounds
 pub record SaysBounds (files : Files) (name : List ℕ) (parts : Parts) (bounds : Table) : Type 0 where
   pub bytes : List ℕ

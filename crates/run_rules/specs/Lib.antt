@@ -4,3 +4,5 @@ pub mod Files
 pub mod Told
 pub mod Trial
 pub mod Run
+pub mod Closing
+pub mod Ends

@@ -1,29 +1,47 @@
 -- What a run did to the files and to the output.
 use Rattle.std.specs.Prelude.{◌≡◌, ◌⊎◌, ⊤, ℕ, List, [], Option, None, Some}
 use Rattle.std.specs.Io.KnownBytes.{Appends}
-use Rattle.outage_rules.specs.Diagnosis.{IsDiagnosis, IsLeastCost}
+use Rattle.outage_rules.specs.Certificate.{IsCertified}
 use Rattle.grid_model.specs.Parts.{Parts}
-use Rattle.grid_model.specs.declared.history.Event.{Event}
-use Rattle.history_rules.specs.Posed.{problem_after, least_after, diagnosis_after, IsHistory}
 use Rattle.history_rules.specs.Run.{ended_lines}
 use Rattle.history_rules.specs.Output.{entries}
 use Rattle.grid_reader.specs.declared.fault.GridRule.{GridRule}
 use Rattle.bound_table.specs.Table.{Table}
 use Rattle.bound_table.specs.declared.bounds.BoundRule.{BoundRule}
-use Rattle.bound_checker.specs.declared.rules.CheckRule.{CheckRule}
-use Rattle.bound_checker.specs.declared.rules.Place.{Place}
+use Rattle.bound_checker.specs.Claimed.{cut_of}
 use Rattle.bound_checker.specs.declared.rules.Verdict.{Verdict}
 use Rattle.bound_checker.specs.declared.rules.Verdict.TheVariants as verdict
 use Rattle.outage_ports.specs.Bytes.{Files, AppendsPrefix}
 use Rattle.command_words.specs.Forms.{Places, Command, Replay, Check, Trial}
-use Rattle.run_rules.specs.Files.{most_network, most_report, IsTooLong, SaysNetwork, RefusesNetworkAt, HasEvents, HasTooManyLines, HasTooManyBytes, IsFrontOf, SaysBounds, RefusesReportAt}
-use Rattle.run_rules.specs.Trial.{MakesRefused, Tries, TriesPart, CompletesTrial, IsSilentTrial}
-use Rattle.run_rules.specs.Told.{output, entries_taken, text_due, verdict_on, verdict_text}
+use Rattle.whole_file.specs.Whole.{FailsAt, StopsUnread}
+use Rattle.run_rules.specs.Files.{most_network, most_report, IsTooLong, SaysNetwork, RefusesNetworkAt, HasEvents, HasTooManyLines, HasTooManyBytes, SaysBounds, RefusesReportAt}
+use Rattle.run_rules.specs.Trial.{MakesRefused, CompletesTrial, IsSilentTrial}
+use Rattle.run_rules.specs.Told.{last_problem, output, entries_taken, text_due, verdict_on, verdict_text}
+use Rattle.run_rules.specs.Closing.{IsToldThroughout, ShowsBounds}
 use Rattle.run_rules.specs.declared.status.Status.{Status}
 use Rattle.run_rules.specs.declared.status.Status.TheVariants.{Done, Invalid, Usage, WriteFault, Memory, Limit, NetworkRefused, ReportRefused}
 use Rattle.run_rules.specs.declared.status.Which.{Which}
 use Rattle.run_rules.specs.declared.status.Which.TheVariants.{NetworkBytes, EventLines, EventBytes, ReportBytes}
 use Rattle.command_words.specs.declared.words.Wish.{Wish}
+
+-- what a run was given, and what it left: the files, what was left to read before and after it, what was written before and after it, and the command of its words
+pub record Run : Type 0 where
+  pub files : Option Files
+  pub left_before : Option (List ℕ)
+  pub left : Option (List ℕ)
+  pub before : Option (List ℕ)
+  pub now : Option (List ℕ)
+  pub command : Option Command
+
+abbrev pub run_of : Option Files → Option (List ℕ) → Option (List ℕ) → Option (List ℕ) → Option (List ℕ) → Option Command → Run
+run_of files left_before left before now command = record {
+  files = files;
+  left_before = left_before;
+  left = left;
+  before = before;
+  now = now;
+  command = command;
+}
 
 -- the statuses of a replay after which nothing was written
 abbrev pub IsSilentReplay : Status → Type 0
@@ -62,40 +80,24 @@ pub record CanCheck (files : Files) (places : Places) (report : List ℕ) (verdi
   pub report_file : SaysBounds files report parts bounds
   pub verdict_is : verdict_on parts events bounds ≡ verdict
 
--- all files were read to their end, and exactly the defined text was written: after each event the set that the lines give is the diagnosis, and the cost is least
-pub record Replays (files : Files) (left before now : Option (List ℕ)) (places : Places) (wish : Wish) : Type 0 where
+-- a replay is done: all files were read to their end, and exactly the defined text was written; after each front of the events its rows tell the diagnosis and the least cost, and its bounds show that nothing feasible costs less
+pub record Replays (files : Files) (run : Run) (places : Places) (wish : Wish) : Type 0 where
   pub can : CanReplay files places
-  pub read : left ≡ Some []
-  pub diagnosis : (h : List Event) → IsHistory can.parts h → IsDiagnosis (problem_after can.parts h) (diagnosis_after can.parts h)
-  pub least : (h : List Event) → IsHistory can.parts h → IsLeastCost (problem_after can.parts h) (least_after can.parts h)
-  pub written : Appends before now (output can.parts can.events wish)
+  pub read : run.left ≡ Some []
+  pub written : Appends run.before run.now (output can.parts can.events wish)
+  pub told : IsToldThroughout can.parts can.events
+  pub shown : ShowsBounds can.parts can.events
 
--- all files were read to their end, and exactly the verdict was written
-pub record Checks (files : Files) (left before now : Option (List ℕ)) (places : Places) (report : List ℕ) (verdict : Verdict) : Type 0 where
+-- a check found this: all files were read to their end, and exactly the verdict was written
+pub record Checks (files : Files) (run : Run) (places : Places) (report : List ℕ) (verdict : Verdict) : Type 0 where
   pub can : CanCheck files places report verdict
-  pub read : left ≡ Some []
-  pub written : Appends before now (verdict_text can.parts verdict)
+  pub read : run.left ≡ Some []
+  pub written : Appends run.before run.now (verdict_text can.parts verdict)
 
-abbrev pub Did : Files → Option (List ℕ) → Option (List ℕ) → Option (List ℕ) → Command → Type 0
-Did files left before now (Replay places wish) = Replays files left before now places wish
-Did files left before now (Check places report) = Checks files left before now places report verdict.Valid
-Did files left before now (Trial n) = Tries before now n
-
-abbrev pub IsDone : Option Files → Option (List ℕ) → Option (List ℕ) → Option (List ℕ) → Option Command → Type 0
-IsDone None left before now command = ⊤
-IsDone (Some files) left before now None = ⊥
-IsDone (Some files) left before now (Some command) = Did files left before now command
-
--- the check found this rule broken
-abbrev pub Found : Files → Option (List ℕ) → Option (List ℕ) → Option (List ℕ) → Command → CheckRule → Type 0
-Found files left before now (Replay places wish) rule = ⊥
-Found files left before now (Check places report) rule = (place : Place) × Checks files left before now places report (verdict.Invalid rule place)
-Found files left before now (Trial n) rule = ⊥
-
-abbrev pub IsInvalid : Option Files → Option (List ℕ) → Option (List ℕ) → Option (List ℕ) → Option Command → CheckRule → Type 0
-IsInvalid None left before now command rule = ⊤
-IsInvalid (Some files) left before now None rule = ⊥
-IsInvalid (Some files) left before now (Some command) rule = Found files left before now command rule
+-- a check is done: the bounds are valid, so the report's cuts are feasible and cost what it says, and no feasible set costs less
+pub record ChecksValid (files : Files) (run : Run) (places : Places) (report : List ℕ) : Type 0 where
+  pub check : Checks files run places report verdict.Valid
+  pub certified : IsCertified (last_problem check.can.parts check.can.events) (cut_of check.can.bounds.cuts) check.can.bounds.cost
 
 -- the network is fine, and the events are there
 pub record CanBegin (files : Files) (places : Places) : Type 0 where
@@ -104,72 +106,55 @@ pub record CanBegin (files : Files) (places : Places) : Type 0 where
   pub network : SaysNetwork files places.net parts
   pub are : files places.events ≡ Some bytes
 
--- a front part of the text that is due was written
-pub record ReplaysPart (files : Files) (before now : Option (List ℕ)) (places : Places) (wish : Wish) : Type 0 where
+-- a write failed, or memory ran out: a front part of the text that is due was written
+pub record ReplaysPart (files : Files) (run : Run) (places : Places) (wish : Wish) : Type 0 where
   pub can : CanBegin files places
-  pub written : AppendsPrefix before now (text_due can.parts can.bytes wish)
+  pub written : AppendsPrefix run.before run.now (text_due can.parts can.bytes wish)
 
-pub record ChecksPart (files : Files) (before now : Option (List ℕ)) (places : Places) (report : List ℕ) : Type 0 where
+pub record ChecksPart (files : Files) (run : Run) (places : Places) (report : List ℕ) : Type 0 where
   pub verdict : Verdict
   pub can : CanCheck files places report verdict
-  pub written : AppendsPrefix before now (verdict_text can.parts verdict)
+  pub written : AppendsPrefix run.before run.now (verdict_text can.parts verdict)
 
-abbrev pub DidPart : Files → Option (List ℕ) → Option (List ℕ) → Command → Type 0
-DidPart files before now (Replay places wish) = ReplaysPart files before now places wish
-DidPart files before now (Check places report) = ChecksPart files before now places report
-DidPart files before now (Trial n) = TriesPart before now n
+-- nothing was written
+abbrev pub WritesNothing : Run → Type 0
+WritesNothing run = run.now ≡ run.before
 
-abbrev pub IsPart : Option Files → Option (List ℕ) → Option (List ℕ) → Option Command → Type 0
-IsPart None before now command = ⊤
-IsPart (Some files) before now None = ⊥
-IsPart (Some files) before now (Some command) = DidPart files before now command
+-- the network was not read: its start failed, or a read of it did
+abbrev pub FailsNetwork : Files → Run → Places → Type 0
+FailsNetwork files run places = StopsUnread (Some files) run.left_before run.left places.net
 
--- nothing was written, or a front part
-abbrev pub IsPartAtMost : Option Files → Option (List ℕ) → Option (List ℕ) → Option Command → Type 0
-IsPartAtMost None before now command = ⊤
-IsPartAtMost (Some files) before now None = now ≡ before
-IsPartAtMost (Some files) before now (Some command) = (now ≡ before) ⊎ DidPart files before now command
-
--- a read of the events failed: the entries of the lines that had ended were written
-pub record StopsReplay (files : Files) (before now : Option (List ℕ)) (places : Places) : Type 0 where
+-- the network was read to its end, and the events were not
+pub record FailsEvents (files : Files) (run : Run) (places : Places) : Type 0 where
   pub parts : Parts
   pub network : SaysNetwork files places.net parts
-  pub taken : List ℕ
-  pub front : IsFrontOf files places.events taken
-  pub written : Appends before now (entries parts 1 [] (ended_lines taken))
+  pub fails : StopsUnread (Some files) (Some []) run.left places.events
 
--- what a failed read leaves written: nothing, or those entries
-abbrev pub Leaves : Files → Option (List ℕ) → Option (List ℕ) → Command → Type 0
-Leaves files before now (Replay places wish) = (now ≡ before) ⊎ StopsReplay files before now places
-Leaves files before now (Check places report) = now ≡ before
-Leaves files before now (Trial n) = ⊥
+-- the network and the events were read to their end, and the report was not
+pub record FailsReport (files : Files) (run : Run) (places : Places) (report : List ℕ) : Type 0 where
+  pub can : CanReplay files places
+  pub fails : StopsUnread (Some files) (Some []) run.left report
 
-abbrev pub IsLeft : Option Files → Option (List ℕ) → Option (List ℕ) → Option Command → Type 0
-IsLeft None before now command = ⊤
-IsLeft (Some files) before now None = ⊥
-IsLeft (Some files) before now (Some command) = Leaves files before now command
+-- a read of the events failed at this place: exactly the entries of the lines that had ended before it were written
+pub record StopsWithin (files : Files) (run : Run) (places : Places) (g : Parts) : Type 0 where
+  pub front : List ℕ
+  pub fails : FailsAt files places.events run.left front
+  pub written : Appends run.before run.now (entries g 1 [] (ended_lines front))
 
--- the network is refused at this line by this rule
-abbrev pub RefusesNetwork : Files → Command → ℕ → GridRule → Type 0
-RefusesNetwork files (Replay places wish) line rule = RefusesNetworkAt files places.net line rule
-RefusesNetwork files (Check places report) line rule = RefusesNetworkAt files places.net line rule
-RefusesNetwork files (Trial n) line rule = MakesRefused n line rule
+-- the network was read to its end, and then the start of the events failed, and nothing was written; or a read of them failed
+pub record StopsReplay (files : Files) (run : Run) (places : Places) : Type 0 where
+  pub parts : Parts
+  pub network : SaysNetwork files places.net parts
+  pub stops : ((run.left ≡ Some []) × WritesNothing run) ⊎ StopsWithin files run places parts
 
-abbrev pub IsRefused : Option Files → Option Command → ℕ → GridRule → Type 0
-IsRefused None command line rule = ⊤
-IsRefused (Some files) None line rule = ⊥
-IsRefused (Some files) (Some command) line rule = RefusesNetwork files command line rule
+-- a read of a replay failed: where it was one of the network, nothing was written
+abbrev pub LeavesReplay : Files → Run → Places → Type 0
+LeavesReplay files run places = (FailsNetwork files run places × WritesNothing run) ⊎ StopsReplay files run places
 
--- the files of a replay are fine, and the report is refused at this line by this rule
-abbrev pub RefusesReport : Files → Command → ℕ → BoundRule → Type 0
-RefusesReport files (Replay places wish) line rule = ⊥
-RefusesReport files (Check places report) line rule = (can : CanReplay files places) × RefusesReportAt files report can.parts line rule
-RefusesReport files (Trial n) line rule = ⊥
-
-abbrev pub IsReportRefused : Option Files → Option Command → ℕ → BoundRule → Type 0
-IsReportRefused None command line rule = ⊤
-IsReportRefused (Some files) None line rule = ⊥
-IsReportRefused (Some files) (Some command) line rule = RefusesReport files command line rule
+-- a read of a check failed: nothing was written
+abbrev pub LeavesCheck : Files → Run → Places → List ℕ → Type 0
+LeavesCheck files run places report =
+    WritesNothing run × (FailsNetwork files run places ⊎ (FailsEvents files run places ⊎ FailsReport files run places report))
 
 -- the network is fine, and a limit of its events is met
 pub record MeetsLines (files : Files) (places : Places) : Type 0 where
@@ -191,33 +176,42 @@ IsOverFiles files places EventLines = MeetsLines files places
 IsOverFiles files places EventBytes = MeetsBytes files places
 IsOverFiles files places ReportBytes = ⊥
 
--- which limit is met: a report is read after them
+-- a limit of a check's files is met: the report is read last
+abbrev pub IsOverReport : Files → Places → List ℕ → Which → Type 0
+IsOverReport files places report ReportBytes = CanReplay files places × IsTooLong files report most_report
+IsOverReport files places report which = IsOverFiles files places which
+
+-- the files of a replay are fine, and the report is refused at this line by this rule
+pub record RefusesReportOf (files : Files) (places : Places) (report : List ℕ) (line : ℕ) (rule : BoundRule) : Type 0 where
+  pub can : CanReplay files places
+  pub refused : RefusesReportAt files report can.parts line rule
+
+-- a replay that meets a limit of its events wrote the entries of the lines that it takes
+pub record IsCutShort (files : Files) (run : Run) (places : Places) : Type 0 where
+  pub can : CanBegin files places
+  pub written : Appends run.before run.now (entries_taken can.parts can.bytes)
+
+-- what a limit leaves written: nothing, where the network is too long
+abbrev pub Cuts : Files → Run → Places → Which → Type 0
+Cuts files run places NetworkBytes = WritesNothing run
+Cuts files run places which = IsCutShort files run places
+
+-- the network is refused at this line by this rule
+abbrev pub RefusesNetwork : Files → Command → ℕ → GridRule → Type 0
+RefusesNetwork files (Replay places wish) line rule = RefusesNetworkAt files places.net line rule
+RefusesNetwork files (Check places report) line rule = RefusesNetworkAt files places.net line rule
+RefusesNetwork files (Trial n) line rule = MakesRefused n line rule
+
+-- a report is refused at this line by this rule
+abbrev pub RefusesReport : Files → Command → ℕ → BoundRule → Type 0
+RefusesReport files (Check places report) line rule = RefusesReportOf files places report line rule
+RefusesReport files command line rule = ⊥
+
+-- which limit is met
 abbrev pub IsOver : Files → Command → Which → Type 0
 IsOver files (Replay places wish) which = IsOverFiles files places which
-IsOver files (Check places report) ReportBytes = CanReplay files places × IsTooLong files report most_report
-IsOver files (Check places report) which = IsOverFiles files places which
+IsOver files (Check places report) which = IsOverReport files places report which
 IsOver files (Trial n) which = ⊥
-
-abbrev pub IsLimit : Option Files → Option Command → Which → Type 0
-IsLimit None command which = ⊤
-IsLimit (Some files) None which = ⊥
-IsLimit (Some files) (Some command) which = IsOver files command which
-
--- the entries of the lines that a replay takes were written
-pub record IsCutShort (files : Files) (before now : Option (List ℕ)) (places : Places) : Type 0 where
-  pub can : CanBegin files places
-  pub written : Appends before now (entries_taken can.parts can.bytes)
-
--- what a limit of the events leaves written
-abbrev pub Cuts : Files → Option (List ℕ) → Option (List ℕ) → Command → Which → Type 0
-Cuts files before now (Replay places wish) EventLines = IsCutShort files before now places
-Cuts files before now (Replay places wish) EventBytes = IsCutShort files before now places
-Cuts files before now command which = now ≡ before
-
-abbrev pub IsCut : Option Files → Option (List ℕ) → Option (List ℕ) → Option Command → Which → Type 0
-IsCut None before now command which = ⊤
-IsCut (Some files) before now None which = ⊥
-IsCut (Some files) before now (Some command) which = Cuts files before now command which
 
 -- where no read failed, a limit that is met and a text that is refused are answered so, unless memory ran out, or a write failed before the limit
 pub record AnswersCauses (files : Files) (command : Command) (status : Status) : Type 0 where

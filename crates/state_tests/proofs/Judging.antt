@@ -24,4 +24,4 @@ module _ (g : Parts) (f : Fielded) (j : Judgement) (poses : FieldPoses) (diagnos
       (opened_by j) (diagnosis_after g field.0) here.within own.within here.diagnosis own.diagnosis
 
   pub judged_field : IsJudgedField g f j
-  judged_field = (field.0, field.1, judged, opened_is)
+  judged_field = (field.0, field.1, judged.sized.opened, opened_is)

@@ -1,2 +1,1 @@
-mod SmallGrid
 mod Judging

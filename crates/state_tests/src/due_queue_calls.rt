@@ -1,4 +1,4 @@
-//! What a queue answers, call by call.
+//! What a queue takes out, one after the other.
 use due_queue::DueQueue;
 use grid_model::Stamp;
 use std::alloc::AllocError;
@@ -12,20 +12,6 @@ fn check(rt: &impl Abort, queue: &mut DueQueue, due: &[(u64, Option<u32>)]) {
 }
 
 #[test]
-fn reads_times(rt: HostRuntime) -> Result<(), AllocError> {
-    let mut queue = DueQueue::new(rt.alloc(), 3)?;
-    assert!(rt; queue.time_of(1).is_none());
-    queue.set(1, Stamp(20));
-    queue.set(2, Stamp(u64::MAX));
-    queue.set(1, Stamp(10));
-    assert!(rt; queue.time_of(1) == Some(Stamp(10)));
-    queue.clear(1);
-    assert!(rt; queue.time_of(1).is_none());
-    assert!(rt; queue.time_of(2) == Some(Stamp(u64::MAX)));
-    Ok(())
-}
-
-#[test]
 fn takes_out_in_order(rt: HostRuntime) -> Result<(), AllocError> {
     let mut queue = DueQueue::new(rt.alloc(), 6)?;
     queue.set(5, Stamp(10));
@@ -35,6 +21,7 @@ fn takes_out_in_order(rt: HostRuntime) -> Result<(), AllocError> {
     queue.set(1, Stamp(20));
     queue.set(0, Stamp(10));
     queue.clear(4);
+    assert!(rt; queue.time_of(0) == Some(Stamp(10)) && queue.time_of(4).is_none());
     let due = [
         (9, None),
         (10, Some(0)),

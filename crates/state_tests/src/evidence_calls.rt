@@ -1,8 +1,9 @@
 //! What reports weigh, at the second before each hold is over and at the second when it is.
+ghost use Rattle.history_rules.specs.StampTexts.{last_second};
 ghost use Rattle.std.specs.Prelude.{◌≡◌, ◌≤◌, ◌<◌, length};
 ghost use Rattle.evidence.specs.Kept.{kept_of, IsEvidenceOf};
 
-use crate::networks::{METER, METER_WITHOUT_HOLDS, network};
+use crate::networks::{METER, network};
 use evidence::{Evidence, Pull, Sign};
 use grid_model::{Grid, MeterId, Stamp};
 use std::alloc::AllocError;
@@ -32,7 +33,7 @@ fn apply(evidence: &mut Evidence, grid: &Grid, act: Act, now: Stamp) -> Pull
     requires own { IsEvidenceOf grid.now evidence.old }
     requires meter { 0 < length grid.now.meters }
     requires later { (kept_of evidence.old 0).at ≤ now.0 }
-    requires range { now.0 ≤ 253_402_300_799 }
+    requires range { now.0 ≤ last_second }
     ensures own { IsEvidenceOf grid.now evidence.new }
     ensures at { (kept_of evidence.new 0).at ≡ now.0 }
 {
@@ -99,25 +100,6 @@ fn holds_end(rt: HostRuntime) -> Result<(), AllocError> {
         at(1800, Act::Call, (11, 0), None, Some(1800)),
         at(1900, Act::Signal(Sign::Powerup), (0, 15), Some(2500), None),
         at(2000, Act::Signal(Sign::PingDown), (13, 0), None, Some(2000)),
-    ];
-    check(&rt, &mut evidence, &grid, &cases);
-    Ok(())
-}
-
-#[test]
-fn holds_of_zero(rt: HostRuntime) -> Result<(), AllocError> {
-    let alloc = rt.alloc();
-    let grid = network(&rt, alloc, METER_WITHOUT_HOLDS, 1, 0, 1);
-    let mut evidence = Evidence::new(alloc, &grid)?;
-    let cases = [
-        at(5, Act::Signal(Sign::Gasp), (12, 0), None, Some(5)),
-        Case {
-            came_back: true,
-            ..at(6, Act::Restored, (12, 0), None, Some(5))
-        },
-        at(7, Act::Signal(Sign::PingUp), (0, 0), None, None),
-        at(8, Act::Call, (11, 0), None, Some(8)),
-        at(8, Act::Signal(Sign::Powerup), (0, 0), None, None),
     ];
     check(&rt, &mut evidence, &grid, &cases);
     Ok(())

@@ -2,11 +2,7 @@
 #![tactic(auto)]
 
 #[cfg(test)]
-mod counted;
-#[cfg(test)]
 mod crew_list_calls;
-#[cfg(test)]
-mod diagnosis_calls;
 #[cfg(test)]
 mod due_queue_calls;
 #[cfg(test)]
@@ -14,18 +10,14 @@ mod evidence_calls;
 #[cfg(test)]
 mod fault_weights_calls;
 #[cfg(test)]
-mod field_state_calls;
-#[cfg(test)]
 mod grid_maker_calls;
 #[cfg(test)]
 mod grid_model_calls;
 #[cfg(test)]
 mod interruption_ledger_calls;
 #[cfg(test)]
-mod nested_faults_calls;
+mod judged_calls;
 #[cfg(test)]
 mod networks;
 #[cfg(test)]
 mod radial_forest_calls;
-#[cfg(test)]
-mod subtree_costs_calls;

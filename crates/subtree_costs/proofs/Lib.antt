@@ -12,6 +12,7 @@ mod Ordered
 mod Kept
 mod Changed
 mod Feeding
+mod Longest
 mod Reaching
 mod Staying
 mod Worked

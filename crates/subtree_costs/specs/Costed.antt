@@ -40,6 +40,10 @@ tree_problem g c = rooted_problem (problem_in g c) c.forest
 abbrev pub rows_table : Parts → Forested → List Row → Table
 rows_table g f rows = tree_table (switched g f.closed) f (λ n. (row_at rows n).live) (λ n. (row_at rows n).dark)
 
+-- what the dark reports sum up to at most, and the live ones
+abbrev pub most_reported : ℕ
+most_reported = 1_000_000_000_000
+
 -- the trees are those of the network; one mark a device, two weights a node; only closed devices are marked
 pub record IsWeighed (g : Parts) (f : Forested) (marks : List Mark) (dark live : List ℕ) : Type 0 where
   pub sound : IsSoundParts g
@@ -48,8 +52,8 @@ pub record IsWeighed (g : Parts) (f : Forested) (marks : List Mark) (dark live :
   pub marked : (d : ℕ) → slice_index_or f.closed d false ≡ false → mark_at marks d ≡ Nothing
   pub dark_each : length dark ≡ length g.nodes
   pub live_each : length live ≡ length g.nodes
-  pub dark_bound : sum dark ≤ 1_000_000_000_000
-  pub live_bound : sum live ≤ 1_000_000_000_000
+  pub dark_bound : sum dark ≤ most_reported
+  pub live_bound : sum live ≤ most_reported
 
 -- and each node hangs from the last device of a walk down from a root
 pub record IsPosed (g : Parts) (f : Forested) (marks : List Mark) (dark live : List ℕ) : Type 0 where

@@ -1,6 +1,6 @@
 -- What kept rows and their total say.
 use Rattle.std.specs.Prelude.{◌≡◌, ℕ, ◌<◌, ◌≤◌, true, length, not, is_some}
-use Rattle.outage_rules.specs.Network.{IsSound, nothing, is_live}
+use Rattle.outage_rules.specs.Network.{Network, IsSound, IsSoundNetwork, nothing, is_live}
 use Rattle.outage_rules.specs.Certificate.{Table, IsForest, HasExactRows, bound_of}
 use Rattle.outage_rules.specs.Reference.{distance}
 use Rattle.grid_model.specs.Parts.{Parts}
@@ -39,3 +39,7 @@ FedRowsAreExact = (g : Parts) (c : Costed) → IsCosted g c → AreFedRows g c
 -- a node's chain of devices up to its root is no longer than its reach
 abbrev pub ChainsAreWithinReach : Type 0
 ChainsAreWithinReach = (g : Parts) (c : Costed) → IsCosted g c → (n r : ℕ) → n < length g.nodes → IsReach (switched g c.forest.closed) n r → depth_in (switched g c.forest.closed) c.forest n ≤ r
+
+-- each node of a network has a reach
+abbrev pub EachNodeHasAReach : Type 0
+EachNodeHasAReach = (net : Network) → IsSoundNetwork net → (reach : ℕ → ℕ) × ((n : ℕ) → n < net.nodes → IsReach net n (reach n))

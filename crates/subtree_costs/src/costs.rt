@@ -76,7 +76,7 @@ impl CostForest {
     ghost use Rattle.subtree_costs.specs.Trees.{depth_in};
     ghost use Rattle.subtree_costs.specs.Repairs.{IsDue};
     ghost use Rattle.subtree_costs.specs.Reach.{IsReach};
-    ghost use Rattle.subtree_costs.specs.Costed.{IsWeighed, IsCosted, TellsRow, TellsTotal};
+    ghost use Rattle.subtree_costs.specs.Costed.{IsWeighed, IsCosted, TellsRow, TellsTotal, most_reported};
 
     /// The costs in the starting states, without marks and weights. An error says that memory ran
     /// out.
@@ -191,8 +191,8 @@ impl CostForest {
     )
         requires costed { IsCosted grid.now self.old }
         requires node { n.0 < length grid.now.nodes }
-        requires dark_sum { sum (slice_set self.old.dark n.0 dark) ≤ 1_000_000_000_000 }
-        requires live_sum { sum (slice_set self.old.live n.0 live) ≤ 1_000_000_000_000 }
+        requires dark_sum { sum (slice_set self.old.dark n.0 dark) ≤ most_reported }
+        requires live_sum { sum (slice_set self.old.live n.0 live) ≤ most_reported }
         ensures costed { IsCosted grid.now self.new }
         ensures forest { self.new.forest ≡ self.old.forest }
         ensures order { self.new.order ≡ self.old.order }

@@ -1,5 +1,5 @@
 //! What kept costs say.
-ghost use Rattle.subtree_costs.specs.Laws.{RowsAreLeast, TotalIsLeast, FedRowsAreExact, ChainsAreWithinReach};
+ghost use Rattle.subtree_costs.specs.Laws.{RowsAreLeast, TotalIsLeast, FedRowsAreExact, ChainsAreWithinReach, EachNodeHasAReach};
 ghost use Rattle.subtree_costs.specs.Walks.{ChangesStayOnWalks};
 
 use outage_rules::{
@@ -37,6 +37,12 @@ pub fn chains_are_within_reach()
 {
     fed_rows_are_exact();
 }
+
+/// Each node of a sound network has a reach: a fed one its distance from its source, and another one
+/// the length of the longest simple walk of closed devices from it.
+pub fn each_node_has_a_reach()
+    ensures { EachNodeHasAReach }
+{}
 
 /// What changes at places alone, weights of reports and marks over the same trees, changes no row off
 /// the walks from the places up to their roots.

@@ -11,7 +11,7 @@ mod rows;
 
 pub use costs::CostForest;
 pub use laws::{
-    chains_are_within_reach, changes_stay_on_walks, fed_rows_are_exact, rows_are_least,
-    total_is_least,
+    chains_are_within_reach, changes_stay_on_walks, each_node_has_a_reach, fed_rows_are_exact,
+    rows_are_least, total_is_least,
 };
 pub use rows::{Row, Steps};

@@ -1,21 +1,17 @@
 //! Texts that are cut, lines with their fields, numbers and times.
-ghost use Rattle.std.specs.Prelude.{◌≡◌, ◌≢◌, ◌↔◌, ◌<◌, ◌++◌, ◌∷◌, [], List, ℕ, OnOk, IfOk, IsNone, IfSome, codes, flat_map, length, nat_le, if◌then◌else◌};
-ghost use Rattle.event_rules.specs.Lines.{lines, most_line};
-ghost use Rattle.line_text.specs.Cutting.{Tells};
+ghost use Rattle.std.specs.Prelude.{◌≡◌, ◌<◌};
 
 use grid_model::Stamp;
 use line_text::{
     BlockReader, Cut, Fields, FieldsFault, Fraction, LineBlock, LineCutter, LineSort, MOST_LINE,
-    RowFields, cut_at, fields, is_skipped_line, lines_from_parts, next_line, put_decimal,
-    put_fraction, put_stamp, read_decimal, read_stamp,
+    RowFields, cut_at, fields, is_skipped_line, next_line, put_decimal, put_fraction, put_stamp,
+    read_decimal, read_stamp,
 };
 use std::alloc::{AllocError, Global};
-use std::process::Abort;
 
 // Appends the line of an answer and an LF; `!` stands for one that is too long.
 fn put_line(text: &mut Vec<u8>, cutter: &LineCutter, cut: Cut) -> Result<(), AllocError>
     requires { cutter.now.last ≡ cut }
-    ensures { OnOk result ((ended : List (List ℕ)) → Tells cut cutter.now.line ended → text.new.items ≡ text.old.items ++ flat_map (λ line. (if nat_le (length line) most_line then line else 33 ∷ []) ++ 10 ∷ []) ended) }
 {
     match cut {
         Cut::More => return Ok(()),
@@ -26,24 +22,22 @@ fn put_line(text: &mut Vec<u8>, cutter: &LineCutter, cut: Cut) -> Result<(), All
     Ok(())
 }
 
-// The lines of a text, each with an LF behind it; `!` stands for one that is too long.
-fn relined(alloc: Global, text: &[u8]) -> Result<Vec<u8>, AllocError>
-    ensures { IfOk result (λ relined. relined.items ≡ flat_map (λ line. (if nat_le (length line) most_line then line else 33 ∷ []) ++ 10 ∷ []) (lines text.now)) }
-{
-    lines_from_parts();
-    let mut cutter = LineCutter::new();
+// The lines of a text, each with an LF behind it.
+fn relined(alloc: Global, cutter: &mut LineCutter, text: &[u8]) -> Result<Vec<u8>, AllocError> {
     let mut relined = Vec::new(alloc);
     for byte in text {
         let cut = cutter.push(*byte);
-        put_line(&mut relined, &cutter, cut)?;
+        put_line(&mut relined, cutter, cut)?;
     }
     let cut = cutter.end();
-    put_line(&mut relined, &cutter, cut)?;
+    put_line(&mut relined, cutter, cut)?;
     Ok(relined)
 }
 
+// One text after another, by one cutter.
 #[test]
-fn cuts_a_text_into_lines(rt: HostRuntime) -> Result<(), AllocError> {
+fn cuts_texts_into_lines(rt: HostRuntime) -> Result<(), AllocError> {
+    let mut cutter = LineCutter::new();
     for (text, lines) in [
         ("", ""),
         ("\n", "\n"),
@@ -56,7 +50,7 @@ fn cuts_a_text_into_lines(rt: HostRuntime) -> Result<(), AllocError> {
         ("a\r", "a\r\n"),
         ("\r", "\r\n"),
     ] {
-        let cut = relined(rt.alloc(), text.as_bytes())?;
+        let cut = relined(rt.alloc(), &mut cutter, text.as_bytes())?;
         assert!(rt; cut.as_slice() == lines.as_bytes(), "{text:?}");
     }
     Ok(())
@@ -98,20 +92,6 @@ fn tells_lines_that_are_too_long(rt: HostRuntime) {
         let last = last_answer(letters, end);
         assert!(rt; last == answer, "{letters} letters and {end:?}");
     }
-}
-
-#[test]
-fn begins_a_new_text_behind_an_end(rt: HostRuntime) {
-    let mut cutter = LineCutter::new();
-    assert!(rt; cutter.push(b'a') == Cut::More);
-    let cut = cutter.end();
-    assert!(rt; cut == Cut::Line);
-    assert!(rt; cutter.line() == b"a".as_slice());
-    assert!(rt; cutter.end() == Cut::More);
-    assert!(rt; cutter.push(b'b') == Cut::More);
-    let cut = cutter.push(b'\n');
-    assert!(rt; cut == Cut::Line);
-    assert!(rt; cutter.line() == b"b".as_slice());
 }
 
 // Appends the fields of a row, each with a `|` behind it.
@@ -176,91 +156,63 @@ fn told_of_mixed_lines(alloc: Global) -> Result<Vec<u8>, AllocError> {
 }
 
 #[test]
-fn tells_lines_by_their_sorts(rt: HostRuntime) -> Result<(), AllocError> {
-    let text = mixed_lines(rt.alloc())?;
-    let mut block = LineBlock::new(rt.alloc());
-    let behind = block.fill(text.as_slice())?;
-    assert!(rt; behind.is_empty());
-    let mut told = Vec::new(rt.alloc());
-    put_told(&mut told, &mut block.reader(rt.alloc()))?;
-    assert!(rt; told == told_of_mixed_lines(rt.alloc())?);
-    Ok(())
-}
-
-#[test]
 fn tells_the_same_in_pieces(rt: HostRuntime) -> Result<(), AllocError> {
     let text = mixed_lines(rt.alloc())?;
+    let expected = told_of_mixed_lines(rt.alloc())?;
     for size in [1, 2, 3, 5, 511, 512, 513, 514, 515, 4096] {
         assert!(rt; size > 0);
         let told = told_in_pieces(rt.alloc(), text.as_slice(), size)?;
-        assert!(rt;
-            told == told_of_mixed_lines(rt.alloc())?,
-            "pieces of {size}"
-        );
+        assert!(rt; told == expected, "pieces of {size}");
     }
     Ok(())
+}
+
+// How many bytes of so many lines of sixteen bytes a block leaves.
+fn left_of(alloc: Global, lines: usize) -> Result<usize, AllocError> {
+    let mut text = Vec::new(alloc);
+    for _ in 0..lines {
+        text.extend_from_slice(b"0123456789,1234\n")?;
+    }
+    let mut block = LineBlock::new(alloc);
+    let behind = block.fill(text.as_slice())?;
+    Ok(behind.len())
 }
 
 #[test]
 fn fills_a_block_with_65536_bytes(rt: HostRuntime) -> Result<(), AllocError> {
-    let mut text = Vec::new(rt.alloc());
-    for _ in 0..9_000 {
-        text.extend_from_slice(b"0123456789,1234\n")?;
+    for (lines, left) in [(0, 0), (4_095, 0), (4_096, 0), (4_097, 16), (9_000, 78_464)] {
+        assert_eq!(rt; left_of(rt.alloc(), lines)?, left, "{lines} lines");
     }
-    let mut block = LineBlock::new(rt.alloc());
-    let behind = block.fill(text.as_slice())?;
-    assert!(rt; behind.len() == 9_000 * 16 - 65_536);
-    let behind = block.fill(behind)?;
-    let behind = block.fill(behind)?;
-    assert!(rt; behind.is_empty());
-    let mut told = Vec::new(rt.alloc());
-    put_told(&mut told, &mut block.reader(rt.alloc()))?;
-    assert!(rt; told.len() == (9_000 - 2 * 4_096) * 17);
     Ok(())
 }
 
-// The name in a row of the form name,NAME.
-fn name_in(mut fields: RowFields<'_>) -> Option<&[u8]>
-    ensures none { IsNone result ↔ ((name : List ℕ) → fields.entry ≢ (codes "name" ∷ name ∷ [])) }
-    ensures name { IfSome result (λ name. fields.entry ≡ codes "name" ∷ name.now ∷ []) }
-{
-    let word = fields.next()?;
-    let name = fields.next()?;
-    if word != b"name".as_slice() || !fields.is_at_end() {
-        return None;
+// The fields of a line, as they are told, or `?`.
+fn told_fields(alloc: Global, line: &[u8]) -> Result<Vec<u8>, AllocError> {
+    let mut told = Vec::new(alloc);
+    match fields(alloc, line) {
+        Ok(row) => put_fields(&mut told, RowFields::of(&row))?,
+        Err(FieldsFault::Bad) => told.push(b'?')?,
+        Err(FieldsFault::Memory) => return Err(AllocError),
     }
-    Some(name)
+    Ok(told)
 }
 
 #[test]
-fn reads_the_name_in_a_row(rt: HostRuntime) -> Result<(), FieldsFault> {
-    let row = fields(rt.alloc(), b"name,F1")?;
-    let name = name_in(RowFields::of(&row));
-    assert!(rt; name == Some(b"F1".as_slice()));
-    let row = fields(rt.alloc(), b"name,F1,")?;
-    assert!(rt; name_in(RowFields::of(&row)).is_none());
-    Ok(())
-}
-
-#[test]
-fn reads_the_fields_of_a_line(rt: HostRuntime) -> Result<(), FieldsFault> {
-    let row = fields(rt.alloc(), b"a,,bc, d")?;
-    assert!(rt; row.len() == 4);
-    assert!(rt; row.get(0) == Some(b"a".as_slice()));
-    assert!(rt; row.get(1) == Some(b"".as_slice()));
-    assert!(rt; row.get(2) == Some(b"bc".as_slice()));
-    assert!(rt; row.get(3) == Some(b" d".as_slice()));
-    let row = fields(rt.alloc(), b"#")?;
-    assert!(rt; row.len() == 1);
-    Ok(())
-}
-
-#[test]
-fn finds_no_fields_in_a_bad_line(rt: HostRuntime) {
-    for line in ["", "\u{feff}a,b", "a,\"b\"", "a,b\r", "a\n,b"] {
-        let fault = fields(rt.alloc(), line.as_bytes()).err();
-        assert!(rt; fault == Some(FieldsFault::Bad), "{line:?}");
+fn reads_the_fields_of_a_line(rt: HostRuntime) -> Result<(), AllocError> {
+    for (line, told) in [
+        ("a,,bc, d", "a||bc| d|"),
+        ("#", "#|"),
+        (",", "||"),
+        ("", "?"),
+        ("\u{feff}a,b", "?"),
+        ("a,\"b\"", "?"),
+        ("a,b\r", "?"),
+        ("a\n,b", "?"),
+    ] {
+        let read = told_fields(rt.alloc(), line.as_bytes())?;
+        assert!(rt; read.as_slice() == told.as_bytes(), "{line:?}");
     }
+    Ok(())
 }
 
 #[test]
@@ -290,21 +242,13 @@ fn prints_a_number(rt: HostRuntime) -> Result<(), AllocError> {
 }
 
 #[test]
-fn cuts_off_the_first_line(rt: HostRuntime) {
+fn cuts_off_lines_and_fields(rt: HostRuntime) {
     let (line, behind) = next_line(b"a,b\r\nc").expect(&rt, "a line");
-    assert!(rt; line == b"a,b".as_slice());
-    assert!(rt; behind == b"c".as_slice());
-    assert!(rt; next_line(b"").is_none());
-}
-
-#[test]
-fn takes_fields_off_a_line(rt: HostRuntime) {
-    let (front, behind) = cut_at(b"a,b", b',').expect(&rt, "a comma");
+    assert!(rt; line == b"a,b".as_slice() && behind == b"c".as_slice());
+    let (front, behind) = cut_at(line, b',').expect(&rt, "a comma");
     assert!(rt; front == b"a".as_slice());
     let mut fields = Fields::of(behind);
-    assert!(rt; !fields.is_at_end());
-    assert!(rt; fields.next() == Some(b"b".as_slice()));
-    assert!(rt; fields.is_at_end());
+    assert!(rt; fields.next() == Some(b"b".as_slice()) && fields.is_at_end());
 }
 
 #[test]

@@ -27,6 +27,7 @@ fn reads_a_file_of_the_host(rt: HostRuntime) -> Result<(), Fail> {
 fn writes_to_the_host(rt: HostRuntime) {
     let mut sink = HostSink::new(&rt);
     assert_eq!(rt; put_all(&mut sink, b"written\n"), Ok(()));
+    assert_eq!(rt; sink.flush(), Ok(()));
 }
 
 fn file(alloc: Global, name: &str, text: &str) -> Result<(String, Vec<u8>), AllocError> {
@@ -69,9 +70,12 @@ fn writes_to_memory(rt: HostRuntime) -> Result<(), Fail> {
     let alloc = rt.alloc();
     let mut failing = Vec::new(alloc);
     failing.push(1u64)?;
+    failing.push(3)?;
     let mut sink = MemorySink::new(alloc, failing, 3, 5)?;
     assert_eq!(rt; sink.write(b"cuts"), Ok(3));
     assert_eq!(rt; sink.write(b"s"), Err(Failed));
+    assert_eq!(rt; sink.flush(), Ok(()));
+    assert_eq!(rt; sink.flush(), Err(Failed));
     assert_eq!(rt; put_all(&mut sink, b"s 2"), Err(Failed));
     assert_eq!(rt; sink.bytes(), b"cuts ".as_slice());
     Ok(())

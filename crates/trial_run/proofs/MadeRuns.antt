@@ -51,19 +51,19 @@ module _ (network events : List ℕ) (fits : length events ≤ most_events) (few
   whole_lines = ap (λ b. if b then lines events else ended_lines (take most_events events)) (le-leb (length events) most_events fits)
 
   -- a run over the events meets no limit, and no fault
-  pub made_stop : {X : Type 0} (name : List ℕ) (before now : Option (List ℕ)) (g : Parts) (r : Result X EventsStop) (s : EventsStop) → r ≡ Err s
+  pub made_stop : {X : Type 0} (name : List ℕ) (start left before now : Option (List ℕ)) (g : Parts) (r : Result X EventsStop) (s : EventsStop) → r ≡ Err s
       → TellsFaults 0 0 (IsErrOf r ends.ReadFailed) → TellsFaults 0 0 (IsErrOf r ends.WriteFailed)
-      → Stops (Some (text_files events)) name before now g s → IsMadeStop network (status_of_stop s)
-  made_stop name before now g r ends.ReadFailed is reads writes stops = absurd (never_fails (IsErrOf r ends.ReadFailed) reads is)
-  made_stop name before now g r ends.WriteFailed is reads writes stops = absurd (never_fails (IsErrOf r ends.WriteFailed) writes is)
-  made_stop name before now g r ends.TooManyLines is reads writes stops =
+      → Stops (Some (text_files events)) name start left before now g s → IsMadeStop network (status_of_stop s)
+  made_stop name start left before now g r ends.ReadFailed is reads writes stops = absurd (never_fails (IsErrOf r ends.ReadFailed) reads is)
+  made_stop name start left before now g r ends.WriteFailed is reads writes stops = absurd (never_fails (IsErrOf r ends.WriteFailed) writes is)
+  made_stop name start left before now g r ends.TooManyLines is reads writes stops =
       let same = ap (λ xs. length (counted (lines_within most_events xs))) (one_text events stops.0 stops.1.are) in
       let whole = ap (λ ls. length (counted ls)) whole_lines in
       let many = stops.1.many in absurd (omega arith)
-  made_stop name before now g r ends.TooManyBytes is reads writes stops =
+  made_stop name start left before now g r ends.TooManyBytes is reads writes stops =
       let same = ap length (one_text events stops.0 stops.1.are) in
       let more = stops.1.more in absurd (omega arith)
-  made_stop name before now g r ends.Memory is reads writes stops = tt
+  made_stop name start left before now g r ends.Memory is reads writes stops = tt
 
 module _ (network events : List ℕ) (n : ℕ) (e : Engined) (refused : ℕ) (made : network ≡ network_text n) (storm : events ≡ event_text n) (ran : RanOver network events e refused) (before now : Option (List ℕ)) where
   -- what is due to be written is the summary of the run

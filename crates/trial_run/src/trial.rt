@@ -4,6 +4,7 @@ ghost use Rattle.event_rules.specs.Lines.{lines};
 ghost use Rattle.history_rules.specs.Run.{counted};
 ghost use Rattle.outage_engine.specs.Engined.{IsEngine};
 ghost use Rattle.run_rules.specs.Faults.{TellsFaults};
+ghost use Rattle.run_rules.specs.Files.{most_event_lines};
 ghost use Rattle.run_rules.specs.Trial.{EndsTrial, IsSilentTrial};
 ghost use Rattle.trial_run.specs.Made.{RanOver, IsMadeStop};
 
@@ -22,9 +23,9 @@ use std::alloc::Global;
 fn run_texts(alloc: Global, network: &[u8], events: &[u8]) -> Result<Ran, Status>
     requires network { length network.now ≤ 67_108_864 }
     requires events { length events.now ≤ 1_073_741_824 }
-    requires few { length (counted (lines events.now)) ≤ 2_000_000 }
+    requires few { length (counted (lines events.now)) ≤ most_event_lines }
     ensures engine { IfOk result (λ ran. IsEngine ran.engine) }
-    ensures few { IfOk result (λ ran. ran.engine.field.applied ≤ 2_000_000) }
+    ensures few { IfOk result (λ ran. ran.engine.field.applied ≤ most_event_lines) }
     ensures ran { IfOk result (λ ran. RanOver network.now events.now ran.engine ran.refused) }
     ensures stopped { IfErr result (IsMadeStop network.now) }
 {
@@ -37,7 +38,7 @@ fn run_texts(alloc: Global, network: &[u8], events: &[u8]) -> Result<Ran, Status
         return Err(Status::Memory);
     };
     let mut shelf = TextShelf::new(events);
-    match run_events(alloc, &mut shelf, "", &mut engine, &mut Nowhere) {
+    match run_events(alloc, &mut shelf, "", &mut engine, &mut Nowhere, false) {
         Ok(refused) => Ok(Ran { engine, refused }),
         Err(stop) => Err(status_by(stop)),
     }

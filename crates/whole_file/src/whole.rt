@@ -1,9 +1,9 @@
 //! Reading a file whole.
 ghost use Rattle.std.specs.Prelude.{◌≡◌, ◌≤◌, ◌<◌, vec_len, IfOk, OnOk, IsErrOf};
 ghost use Rattle.outage_ports.specs.Causes.{Rose};
-ghost use Rattle.whole_file.specs.Whole.{Took, IsWhole, IsLonger};
+ghost use Rattle.whole_file.specs.Whole.{Took, IsWhole, IsLonger, StopsUnread};
 
-use outage_ports::Shelf;
+use outage_ports::{PIECE, Shelf};
 use std::alloc::Global;
 
 /// Why a file was not read whole.
@@ -14,9 +14,8 @@ pub enum Stop {
     Memory,
 }
 
-const PIECE: usize = 4096;
-
-/// The bytes of a file, of which it may have at most so many.
+/// The bytes of a file, of which it may have at most so many. Where the shelf fails, either the file
+/// was not started, or what is left of it is what was not taken.
 pub fn read_whole<S: Shelf>(
     alloc: Global,
     shelf: &mut S,
@@ -28,6 +27,8 @@ pub fn read_whole<S: Shelf>(
     ensures whole { IfOk result (λ v. IsWhole (S.files shelf.old) (S.left shelf.new) name.now v.items) }
     ensures bound { IfOk result (λ v. vec_len v ≤ most) }
     ensures long { IsErrOf result Stop.TooLong → IsLonger (S.files shelf.old) name.now most }
+    ensures stopped { IsErrOf result Stop.Failed
+        → StopsUnread (S.files shelf.old) (S.left shelf.old) (S.left shelf.new) name.now }
     ensures later { S.faults shelf.old ≤ S.faults shelf.new }
     ensures failed { IsErrOf result Stop.Failed → Rose (S.faults shelf.old) (S.faults shelf.new) }
     ensures only_failed { S.faults shelf.old < S.faults shelf.new → IsErrOf result Stop.Failed }

@@ -5,14 +5,14 @@ use Rattle.outage_ports.specs.Bytes.{AppendsPrefix}
 use Rattle.command_words.specs.Seen.{places_view}
 use Rattle.command_words.specs.Forms.{Check}
 use Rattle.run_rules.specs.Told.{verdict_text, IsVerdictOf}
-use Rattle.engine_run.specs.Ended.{IsEnd}
+use Rattle.run_rules.specs.Ends.{IsEnd}
 use Rattle.check_run.specs.Reported.{DidSayBounds, IsReportStop}
 use Rattle.run_rules.proofs.FaultsTold.{left_count, no_fault, tells_last, tells_as}
 use Rattle.check_run.proofs.VerdictPlaces.{placed_by}
 use Rattle.engine_run.proofs.Ends.{no_error}
-use Rattle.run_rules.specs.Run.{IsSilent}
+use Rattle.run_rules.specs.Run.{run_of, IsSilent}
 use Rattle.run_rules.specs.declared.status.Status.TheVariants.{ReadFault, WriteFault}
-use Rattle.check_run.proofs.CheckEnds.{never_silent, verdict_used, verdict_read, verdict_written, error_is, error_of, run_done, memory_unread, write_unread, no_wish, stopped_end, report_end, check_part_end, check_done_end}
+use Rattle.check_run.proofs.CheckEnds.{never_silent, verdict_used, verdict_read, verdict_written, error_is, error_of, run_done, memory_unread, write_unread, no_wish, idle_check, stopped_end, report_end, check_part_end, check_done_end}
 use Rattle.check_run.proofs.check.run_check.Goals as goal
 
 pub returns-in-Err-read_report-clause-shelf : goal.returns-in-Err-read_report-clause-shelf
@@ -55,10 +55,20 @@ returns-in-Ok-put_all-clause-out g c =
 pub returns-in-Ok-put_all-clause-no_usage : goal.returns-in-Ok-put_all-clause-no_usage
 returns-in-Ok-put_all-clause-no_usage g c = λ e. verdict_used c.in-Ok-verdict_by.verdict (sym c.status_by.ensures ∙ e)
 
+-- memory ran out before the verdict was written
+pub returns-in_default-clause-ended : goal.returns-in_default-clause-ended
+returns-in_default-clause-ended g c =
+    idle_check (g.S.Shelf.files c.args.shelf.now) (g.S.Shelf.left c.args.shelf.now) (g.S.Shelf.left c.read_report.new.shelf) (g.K.Sink.written c.args.out.now) (places_view c.args.places) c.args.report.now
+
+pub returns-in_default-text_of-clause-ended : goal.returns-in_default-text_of-clause-ended
+returns-in_default-text_of-clause-ended g c =
+    idle_check (g.S.Shelf.files c.args.shelf.now) (g.S.Shelf.left c.args.shelf.now) (g.S.Shelf.left c.read_report.new.shelf) (g.K.Sink.written c.args.out.now) (places_view c.args.places) c.args.report.now
+
 pub returns-in-Err-clause-ended : goal.returns-in-Err-clause-ended
 returns-in-Err-clause-ended g c =
     stopped_end
     (g.S.Shelf.files c.args.shelf.now)
+    (g.S.Shelf.left c.args.shelf.now)
     (g.S.Shelf.left c.run_engine.new.shelf)
     _
     _
@@ -73,8 +83,8 @@ returns-in-Err-clause-ended g c =
 
 pub returns-in-Err-read_report-clause-ended : goal.returns-in-Err-read_report-clause-ended
 returns-in-Err-read_report-clause-ended g c =
-    let stop : IsReportStop (g.S.Shelf.files c.run_engine.new.shelf) c.args.report.now c.in-Ok.ran.engine.grid c.in-Err-read_report.status =
-    subst (λ p. IsReportStop (g.S.Shelf.files c.run_engine.new.shelf) c.args.report.now p c.in-Err-read_report.status) c.grid-grid.ensures c.in-Err-read_report.ensures.stopped in
+    let stop : IsReportStop (g.S.Shelf.files c.run_engine.new.shelf) (g.S.Shelf.left c.run_engine.new.shelf) (g.S.Shelf.left c.read_report.new.shelf) c.args.report.now c.in-Ok.ran.engine.grid c.in-Err-read_report.status =
+    subst (λ p. IsReportStop (g.S.Shelf.files c.run_engine.new.shelf) (g.S.Shelf.left c.run_engine.new.shelf) (g.S.Shelf.left c.read_report.new.shelf) c.args.report.now p c.in-Err-read_report.status) c.grid-grid.ensures c.in-Err-read_report.ensures.stopped in
     report_end
     (places_view c.args.places)
     c.args.report.now
@@ -85,6 +95,7 @@ returns-in-Err-read_report-clause-ended g c =
     _
     (g.S.Shelf.files c.args.shelf.now)
     (g.S.Shelf.files c.run_engine.new.shelf)
+    (g.S.Shelf.left c.args.shelf.now)
     (g.S.Shelf.left c.read_report.new.shelf)
     (g.K.Sink.written c.args.out.now)
     c.in-Err-read_report.status
@@ -105,6 +116,7 @@ returns-in-Ok-put_all-clause-ended g c =
     let all : Appends (g.K.Sink.written c.args.out.now) (g.K.Sink.written c.put_all.new.out) c.in-Ok-text_of.text.items = search rules in
     let end =
     check_done_end
+    c.bounds_are_shown.ensures
     (places_view c.args.places)
     c.args.report.now
     c.in-Ok.ran.engine
@@ -117,6 +129,7 @@ returns-in-Ok-put_all-clause-ended g c =
     c.in-Ok-verdict_by.ensures
     c.in-Ok-text_of.text.items
     told
+    (g.S.Shelf.left c.args.shelf.now)
     (g.S.Shelf.left c.read_report.new.shelf)
     (g.K.Sink.written c.args.out.now)
     (g.K.Sink.written c.put_all.new.out)
@@ -126,7 +139,7 @@ returns-in-Ok-put_all-clause-ended g c =
     c.in-Ok.ensures.ran
     says
     all in
-    subst (λ s. IsEnd (g.S.Shelf.files c.args.shelf.now) (g.S.Shelf.left c.read_report.new.shelf) (g.K.Sink.written c.args.out.now) (g.K.Sink.written c.put_all.new.out) (Some (Check (places_view c.args.places) c.args.report.now)) s) (sym c.status_by.ensures) end
+    subst (λ s. IsEnd (run_of (g.S.Shelf.files c.args.shelf.now) (g.S.Shelf.left c.args.shelf.now) (g.S.Shelf.left c.read_report.new.shelf) (g.K.Sink.written c.args.out.now) (g.K.Sink.written c.put_all.new.out) (Some (Check (places_view c.args.places) c.args.report.now))) s) (sym c.status_by.ensures) end
 
 pub returns-clause-ended : goal.returns-clause-ended
 returns-clause-ended g c =
@@ -147,6 +160,7 @@ returns-clause-ended g c =
     c.in-Ok-verdict_by.ensures
     c.in-Ok-text_of.text.items
     told
+    (g.S.Shelf.left c.args.shelf.now)
     (g.S.Shelf.left c.read_report.new.shelf)
     (g.K.Sink.written c.args.out.now)
     (g.K.Sink.written c.put_all.new.out)

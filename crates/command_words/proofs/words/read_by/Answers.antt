@@ -1,7 +1,7 @@
 use Rattle.std.proofs.Common.{◌∙◌, ap, sym, subst, map, string_bytes, Option, List}
 use Rattle.std.specs.Global.{Global}
 use Rattle.clap.specs.Walk.{Row, Text}
-use Rattle.command_words.specs.Matched.{IsKnown, command_by_name, check_in, replay_in, trial_in}
+use Rattle.command_words.specs.Matched.{IsKnown, command_by_name, own_reads}
 use Rattle.command_words.specs.Seen.{command_view}
 use Rattle.command_words.proofs.Feeders.{has_feeders}
 use Rattle.command_words.proofs.Reading.{command_parsed, command_refused, known}
@@ -18,7 +18,7 @@ pub returns-in-Some-clause-command : goal.returns-in-Some-clause-command
 returns-in-Some-clause-command c =
     let words = map (string_bytes {Z = Global}) c.args.words.now in
     sym (command_parsed words (all_spelled c.args.words.now) c.in-Ok.ensures.ok)
-    ∙ ap (λ (o : Option (Text × List Row)). command_by_name replay_in check_in trial_in o) (sym c.in-Ok.ensures.rows) ∙ sym c.in-Some.ensures
+    ∙ ap (λ (o : Option (Text × List Row)). command_by_name own_reads o) (sym c.in-Ok.ensures.rows) ∙ sym c.in-Some.ensures
 
 pub returns-in-Some-clause-feeders : goal.returns-in-Some-clause-feeders
 returns-in-Some-clause-feeders c =
@@ -28,7 +28,7 @@ pub returns-in-Ok-clause-usage : goal.returns-in-Ok-clause-usage
 returns-in-Ok-clause-usage c = λ e.
     let words = map (string_bytes {Z = Global}) c.args.words.now in
     sym (command_parsed words (all_spelled c.args.words.now) c.in-Ok.ensures.ok)
-    ∙ ap (λ (o : Option (Text × List Row)). command_by_name replay_in check_in trial_in o) (sym c.in-Ok.ensures.rows) ∙ sym c.in-None.ensures
+    ∙ ap (λ (o : Option (Text × List Row)). command_by_name own_reads o) (sym c.in-Ok.ensures.rows) ∙ sym c.in-None.ensures
 
 pub returns-clause-usage : goal.returns-clause-usage
 returns-clause-usage c = λ e.

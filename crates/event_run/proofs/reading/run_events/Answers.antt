@@ -6,7 +6,8 @@ use Rattle.history_rules.specs.Output.{entries}
 use Rattle.event_run.specs.Reached.{Finished, Leads}
 use Rattle.event_run.specs.declared.reading.EventsStop.TheVariants.{WriteFailed}
 use Rattle.event_run.specs.declared.reading.Progress.{Progress}
-use Rattle.event_run.proofs.EventsRead.{reached_none, took_none, start_stopped, taken_few, all_read, leads_on, told_alike, done, at_done}
+use Rattle.event_run.proofs.PutLines.{done, at_done, at_failed}
+use Rattle.event_run.proofs.EventsRead.{reached_none, took_none, start_stopped, taken_few, all_read, leads_on, told_alike}
 use Rattle.run_rules.proofs.FaultsTold.{tells_last}
 use Rattle.event_run.proofs.reading.run_events.Goals as goal
 
@@ -15,7 +16,7 @@ reads-init g c =
     let ok = done c.start.result (sym c.is_err.ensures.value ∙ c.if-is_err.false) in record {
       reached =
           reached_none (g.S.Shelf.files c.args.shelf.now) c.args.name.now (g.S.Shelf.left c.start.new.self) (g.K.Sink.written c.args.out.now) c.new-run.result c.args.engine.now
-          (took_none (g.S.Shelf.files c.args.shelf.now) (g.S.Shelf.left c.start.new.self) c.args.name.now (at_done c.start.result _ c.start.ensures.whole ok)) (c.new-run.ensures c.args.engine.now c.requires.engine);
+          (took_none (g.S.Shelf.files c.args.shelf.now) (g.S.Shelf.left c.start.new.self) c.args.name.now (at_done c.start.result _ c.start.ensures.whole ok)) (c.new-run.ensures (g.K.Sink.written c.args.out.now) c.args.engine.now c.requires.engine);
       files = c.start.ensures.files;
       started = at_done c.start.result _ c.start.ensures.begun ok;
       shelf = at_done c.start.result _ c.start.ensures.cause.kept ok;
@@ -25,7 +26,10 @@ reads-init g c =
     }
 
 pub returns-then-is_err-clause-stopped : goal.returns-then-is_err-clause-stopped
-returns-then-is_err-clause-stopped g c = start_stopped c.lines_from_parts.ensures (g.S.Shelf.files c.args.shelf.now) c.args.name.now (g.K.Sink.written c.args.out.now) c.args.engine.now.grid
+returns-then-is_err-clause-stopped g c =
+    let failed = c.if-is_err.true in
+    start_stopped (g.S.Shelf.files c.args.shelf.now) c.args.name.now (g.S.Shelf.left c.args.shelf.now) (g.S.Shelf.left c.start.new.self) (g.K.Sink.written c.args.out.now) c.args.engine.now.grid
+    (at_failed c.start.result _ c.start.ensures.same_left (sym c.is_err.ensures.value ∙ failed))
 
 pub returns-in_err-left-clause-stopped : goal.returns-in_err-left-clause-stopped
 returns-in_err-left-clause-stopped g c =
@@ -33,7 +37,7 @@ returns-in_err-left-clause-stopped g c =
     let inv = c.reads.invariant in
     rw (p.1, p.2)
     (leads_on (g.S.Shelf.files c.args.shelf.now) (g.S.Shelf.files c.reads.shelf) inv.files c.args.engine.now.grid c.reads.engine.grid inv.grid c.args.name.now (g.S.Shelf.left c.reads.shelf) (g.S.Shelf.left c.read_more.new.shelf) (g.K.Sink.written c.args.out.now) (g.K.Sink.written c.reads.out) (g.K.Sink.written c.read_more.new.out) c.reads.run c.read_more.new.run c.reads.engine c.read_more.new.engine c.reads.room (Err c.in_err-left.field-0.0) c.in_err-left.ensures.leads
-    inv.reached)
+    inv.reached (g.S.Shelf.left c.args.shelf.now))
 
 pub returns-in_err-left-clause-out : goal.returns-in_err-left-clause-out
 returns-in_err-left-clause-out g c =
@@ -49,7 +53,7 @@ refused-requires g c =
     inv.reached in
     let end : Finished (g.S.Shelf.files c.args.shelf.now) c.args.name.now (g.S.Shelf.left c.read_more.new.shelf) (g.K.Sink.written c.args.out.now) (g.K.Sink.written c.read_more.new.out) c.args.engine.now.grid c.read_more.new.run c.read_more.new.engine =
     subst (λ (p : Progress). Leads (g.S.Shelf.files c.args.shelf.now) c.args.name.now (g.S.Shelf.left c.read_more.new.shelf) (g.K.Sink.written c.args.out.now) (g.K.Sink.written c.read_more.new.out) c.args.engine.now.grid c.read_more.new.run c.read_more.new.engine (Ok p)) c.in-Ended.is leads in
-    (lines end.bytes, entries c.args.engine.now.grid 1 [] (lines end.bytes), end.taken)
+    (lines end.bytes, entries c.args.engine.now.grid 1 [] (lines end.bytes), end.lines.has)
 
 pub returns-in-Ended-clause-few : goal.returns-in-Ended-clause-few
 returns-in-Ended-clause-few g c =
@@ -59,7 +63,7 @@ returns-in-Ended-clause-few g c =
     inv.reached in
     let end : Finished (g.S.Shelf.files c.args.shelf.now) c.args.name.now (g.S.Shelf.left c.read_more.new.shelf) (g.K.Sink.written c.args.out.now) (g.K.Sink.written c.read_more.new.out) c.args.engine.now.grid c.read_more.new.run c.read_more.new.engine =
     subst (λ (p : Progress). Leads (g.S.Shelf.files c.args.shelf.now) c.args.name.now (g.S.Shelf.left c.read_more.new.shelf) (g.K.Sink.written c.args.out.now) (g.K.Sink.written c.read_more.new.out) c.args.engine.now.grid c.read_more.new.run c.read_more.new.engine (Ok p)) c.in-Ended.is leads in
-    taken_few (lines end.bytes) (entries c.args.engine.now.grid 1 [] (lines end.bytes)) c.read_more.new.run.taken c.read_more.new.engine end.taken
+    taken_few (lines end.bytes) (entries c.args.engine.now.grid 1 [] (lines end.bytes)) c.read_more.new.run.taken c.read_more.new.engine end.lines.has
 
 pub returns-in-Ended-clause-all : goal.returns-in-Ended-clause-all
 returns-in-Ended-clause-all g c =
@@ -70,4 +74,4 @@ returns-in-Ended-clause-all g c =
     let end : Finished (g.S.Shelf.files c.args.shelf.now) c.args.name.now (g.S.Shelf.left c.read_more.new.shelf) (g.K.Sink.written c.args.out.now) (g.K.Sink.written c.read_more.new.out) c.args.engine.now.grid c.read_more.new.run c.read_more.new.engine =
     subst (λ (p : Progress). Leads (g.S.Shelf.files c.args.shelf.now) c.args.name.now (g.S.Shelf.left c.read_more.new.shelf) (g.K.Sink.written c.args.out.now) (g.K.Sink.written c.read_more.new.out) c.args.engine.now.grid c.read_more.new.run c.read_more.new.engine (Ok p)) c.in-Ended.is leads in
     all_read (g.S.Shelf.files c.args.shelf.now) (g.S.Shelf.left c.read_more.new.shelf) c.args.name.now (g.K.Sink.written c.args.out.now) (g.K.Sink.written c.read_more.new.out) c.args.engine.now.grid c.read_more.new.run c.read_more.new.engine c.refused.result end
-    (c.refused.ensures (lines end.bytes) (entries c.args.engine.now.grid 1 [] (lines end.bytes)) end.taken)
+    (c.refused.ensures (lines end.bytes) (entries c.args.engine.now.grid 1 [] (lines end.bytes)) end.lines.has)

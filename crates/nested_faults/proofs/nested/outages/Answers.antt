@@ -15,19 +15,19 @@ use Rattle.nested_faults.proofs.nested.outages.Goals as goal
 pub last_cuts-requires-clause-costed : goal.last_cuts-requires-clause-costed
 last_cuts-requires-clause-costed c = subst (IsCosted c.args.grid.now) (sym c.costs-costs.ensures) c.requires.1.costed
 
-pub last_cuts-requires-clause-sized : goal.last_cuts-requires-clause-sized
-last_cuts-requires-clause-sized c = c.requires.2.sized
+pub last_cuts-requires-clause-flags : goal.last_cuts-requires-clause-flags
+last_cuts-requires-clause-flags c = c.requires.2
 
 pub tallies-requires-clause-within : goal.tallies-requires-clause-within
 tallies-requires-clause-within c =
-    noted_within c.args.grid.now c.costs-costs.result.now c.args.judged.now c.deref.result.now c.requires.2.sized
+    noted_within c.args.grid.now c.costs-costs.result.now c.args.judged.now c.deref.result.now c.requires.2
     (subst (AreLastCuts c.args.grid.now c.costs-costs.result.now c.args.judged.now) (sym c.deref.ensures.value) c.in_ok-last.ensures)
 
 pub list_outages-requires-clause-costed : goal.list_outages-requires-clause-costed
 list_outages-requires-clause-costed c = subst (IsCosted c.args.grid.now) (sym c.costs-costs.ensures) c.requires.1.costed
 
-pub list_outages-requires-clause-sized : goal.list_outages-requires-clause-sized
-list_outages-requires-clause-sized c = c.requires.2.sized
+pub list_outages-requires-clause-flags : goal.list_outages-requires-clause-flags
+list_outages-requires-clause-flags c = c.requires.2
 
 pub returns : goal.returns
 returns c =
@@ -44,6 +44,6 @@ returns c =
     let each : length tallies ≡ length g.devices = c.deref-3.ensures.len ∙ c.in_ok-tallies.ensures.each in
     if_ok c.list_outages.result (λ v. v.items ≡ outages_in g f.costs j last tallies (length g.devices))
     (λ v. (h : List Event) → IsFieldAfter g h f → opened_by j ≡ diagnosis_after g h → v.items ≡ outages_after g h (diagnosis_after g h))
-    (λ v e h field opened. e ∙ listed_outages g h f j last tallies field cuts told each c.evidence_is_kept.ensures c.history_is_timely.ensures c.problem_is_sound.ensures
+    (λ v e h field opened. e ∙ listed_outages g h f j last tallies field cuts told each c.problem_is_sound.ensures
     c.field_poses.ensures c.fed_rows_are_exact.ensures opened)
     (subst (λ k. IfOk c.list_outages.result (λ v. v.items ≡ outages_in g k j last tallies (length g.devices))) c.costs-costs.ensures c.list_outages.ensures)

@@ -1,7 +1,10 @@
-use Rattle.std.proofs.Common.{◌≡◌, ◌++◌, take}
-use Rattle.bound_table.specs.Words.{spelling}
+use Rattle.std.proofs.Common.{◌≡◌, take}
+use Rattle.std.specs.Io.KnownBytes.{Appends}
 use Rattle.report_text.specs.Entered.{device_rows}
 use Rattle.report_text.proofs.entries.put_devices.Given as goal
 
+-- the rows of the first devices were written
 abbrev pub invariant-loop-device : goal.invariant-loop-device
-invariant-loop-device l = l.out.items ≡ l.fn.out.items ++ device_rows l.grid (spelling l.word) l.line l.judged l.was_opened (take l.device-index l.changed)
+invariant-loop-device g l =
+    Appends (g.K.Sink.written l.fn.out) (g.K.Sink.written l.out) (device_rows l.engine l.word l.line l.was_opened (take l.device-index l.changed))
+    × (g.K.Sink.faults l.out ≡ g.K.Sink.faults l.fn.out)

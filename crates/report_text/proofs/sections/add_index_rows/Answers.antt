@@ -1,7 +1,12 @@
 -- The three rows are of the three indices.
 use Rattle.std.proofs.lemmas.Result.{on_ok_weaker}
+use Rattle.report_text.proofs.CountedLines.{lines_can_be_counted}
 use Rattle.report_text.proofs.IndexRows.{indices_added}
 use Rattle.report_text.proofs.sections.add_index_rows.Goals as goal
+
+pub totals-indices-requires-clause-lines : goal.totals-indices-requires-clause-lines
+totals-indices-requires-clause-lines c =
+    lines_can_be_counted c.args.grid.now c.args.now.0 c.args.lines.now c.requires.second c.requires.lines
 
 pub returns : goal.returns
 returns c =

@@ -1,5 +1,5 @@
 -- The run over the events stops for want of memory alone.
-use Rattle.std.proofs.Common.{ℕ, List, None, Some, sym, subst}
+use Rattle.std.proofs.Common.{ℕ, List, [], Option, None, Some, sym, subst}
 use Rattle.event_run.specs.Reading.{Stops}
 use Rattle.trial_run.specs.Made.{IsMadeStop}
 use Rattle.trial_run.proofs.MadeRuns.{text_files, made_stop}
@@ -7,7 +7,9 @@ use Rattle.trial_run.proofs.trial.run_texts.Goals as goal
 
 pub returns-in-Err-clause-stopped : goal.returns-in-Err-clause-stopped
 returns-in-Err-clause-stopped c =
+    let start : Option (List ℕ) = Some c.new-shelf.result.rest.now in
+    let left : Option (List ℕ) = Some c.run_events.new.shelf.rest.now in
     subst (IsMadeStop c.args.network.now) (sym c.status_by.ensures)
-    (made_stop c.args.network.now c.args.events.now c.requires.events c.requires.few _ None None c.in-Ok-new.engine.grid c.run_events.result c.in-Err.stop c.in-Err.is
+    (made_stop c.args.network.now c.args.events.now c.requires.events c.requires.few [] start left None None c.in-Ok-new.engine.grid c.run_events.result c.in-Err.stop c.in-Err.is
     c.run_events.ensures.shelf c.run_events.ensures.out
-    (subst (λ (xs : List ℕ). Stops (Some (text_files xs)) _ None None c.in-Ok-new.engine.grid c.in-Err.stop) c.new-shelf.ensures c.in-Err.ensures.stopped))
+    (subst (λ (xs : List ℕ). Stops (Some (text_files xs)) [] start left None None c.in-Ok-new.engine.grid c.in-Err.stop) c.new-shelf.ensures c.in-Err.ensures.stopped))

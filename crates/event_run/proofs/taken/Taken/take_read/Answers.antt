@@ -30,7 +30,7 @@ returns-in-Ok-None-clause-taken c = λ lines line written reading has.
     let counts = has.counts in
     let none = ap length (counted_skipped line skipped) in
     taken_more c.run_of_parts.ensures lines line written c.args.self.now _ c.args.engine.now c.args.engine.now Skips has refl
-    (skipped_outcome c.args.engine.now.grid (history_in c.args.engine.now.grid [] lines) line skipped) refl (omega arith) (omega arith) (sym (append-nil c.args.self.now.entries.items)) has.engine
+    (skipped_outcome c.args.engine.now.grid (history_in c.args.engine.now.grid [] lines) line skipped) refl (omega arith) (omega arith) (sym (append-nil c.args.self.now.entries.bytes.items)) has.engine
 
 pub returns-in_ok-take_event-in-Ok-Some-clause-taken : goal.returns-in_ok-take_event-in-Ok-Some-clause-taken
 returns-in_ok-take_event-in-Ok-Some-clause-taken c = λ lines line written reading has.

@@ -22,8 +22,8 @@ returns-clause-tight c =
 
 pub returns-clause-of_network : goal.returns-clause-of_network
 returns-clause-of_network c =
-    let h = c.requires.0 in
-    let old = subst (IsEngineAfter h) (sym c.self.view_is) c.requires.1 in
+    let h = c.self.invariant.0 in
+    let old = c.self.invariant.1 in
     let poses = c.field_poses.ensures c.self.inside.grid h c.self.inside.field old.field in
     IfOk-weaker c.bounds_of.result
     (λ b. whole_weight (problem_in c.self.inside.grid c.costs.result.now) ≤ most_cost → IsTableOf c.self.inside.grid b)

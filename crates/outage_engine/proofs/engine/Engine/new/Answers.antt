@@ -15,3 +15,6 @@ returns-clause-after c =
     c.fed_rows_are_exact.ensures c.total_is_least.ensures (subst (λ k. IsJudged g k j) c.costs.ensures c.in_ok-judged.ensures.judged)
     (subst (λ k. TellsDiagnosis (problem_in g k) j) c.costs.ensures c.in_ok-judged.ensures.diagnosis) in
     engine_is g [] f j l judged (record { last = omega arith }) (first_ledger_is g j l judged.field.sound judged.dark judged.opened c.in_ok-ledger.ensures)
+
+pub invariant_of-result : goal.invariant_of-result
+invariant_of-result c = ([], returns-clause-after c)

@@ -16,7 +16,7 @@ pub read-tells : goal.read-tells
 read-tells g c = record {
   files = refl;
   begun = c.ensures.begun;
-  front = c.ensures.front;
+  bound = c.ensures.bound;
   bytes = always_ok _ c.result (λ _. tt);
   same_left = always_err c.result refl;
   cause = c.ensures.cause;

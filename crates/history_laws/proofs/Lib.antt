@@ -1,0 +1,3 @@
+pub mod ByMeters
+pub mod RunLists
+pub mod LedgerRuns

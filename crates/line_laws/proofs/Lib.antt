@@ -1,0 +1,3 @@
+pub mod EventWords
+pub mod EventRuleLemmas
+pub mod NetworkRuleLemmas

@@ -1,0 +1,3 @@
+pub mod FirstRule
+pub mod EventRules
+pub mod NetworkRules
