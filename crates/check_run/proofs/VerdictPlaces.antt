@@ -1,11 +1,10 @@
 -- A verdict names a place of the network.
-use Rattle.std.proofs.Common.{◌≡◌, ℕ, zero, suc, ◌<◌, Bool, true, false, refl, sym, subst, arith, List, length, Some, None}
+use Rattle.std.proofs.Common.{◌≡◌, ℕ, zero, suc, ◌<◌, Bool, true, false, refl, sym, subst, arith, length, Some, None}
 use Rattle.std.specs.Prelude.{Option, IfSome, if◌then◌else◌}
 use Rattle.std.specs.Option.{option_map}
 use Rattle.outage_rules.specs.Network.{Problem, Cut}
 use Rattle.outage_rules.specs.Certificate as certificate
 use Rattle.grid_model.specs.Parts.{Parts}
-use Rattle.grid_model.specs.declared.history.Event.{Event}
 use Rattle.history_rules.specs.Posed.{problem_after}
 use Rattle.bound_table.specs.Table.{Table}
 use Rattle.bound_checker.specs.Claimed.{table_of, cut_of}
@@ -16,8 +15,9 @@ use Rattle.bound_checker.specs.declared.rules.CheckRule.TheVariants.{NotClosed, 
 use Rattle.bound_checker.specs.declared.rules.Place.{Place}
 use Rattle.bound_checker.specs.declared.rules.Place.TheVariants.{Nowhere}
 use Rattle.bound_checker.specs.declared.rules.Verdict.{Verdict}
-use Rattle.outage_engine.specs.Engined.{Engined, IsEngineAfter, IsEngine}
+use Rattle.outage_engine.specs.Engined.{Engined, IsEngine}
 use Rattle.run_rules.specs.Told.{IsPlaceOf, IsVerdictOf}
+use Rattle.check_run.specs.Reported.{IsVerdictOn}
 
 -- the first number that passes is below the bound
 here_within : (found : Option ℕ) (passes : Bool) (n : ℕ) → IfSome found (λ k. k < n) → IfSome (or_here found passes n) (λ k. k < suc n)
@@ -69,9 +69,8 @@ module _ (g : Parts) where
         (else_placed Total _ _ (whole_placed (adds_up_otherwise p t c)) tt)))))))))
 
 -- the verdict on bounds by an engine names a place of the network
-pub placed_by : (e : Engined) (b : Table) (v : Verdict) → IsEngine e →
-    ((h : List Event) → IsEngineAfter h e → v ≡ verdict_of (problem_after e.grid h) (table_of (length e.grid.devices) b.rows) (cut_of b.cuts) b.cost) → IsVerdictOf e.grid v
-unfolding problem_after
+pub placed_by : (e : Engined) (b : Table) (v : Verdict) → IsEngine e → IsVerdictOn e b v → IsVerdictOf e.grid v
+unfolding problem_after IsVerdictOn
 placed_by e b v engine is =
     subst (IsVerdictOf e.grid) (sym (is engine.0 engine.1))
     (verdict_placed e.grid (problem_after e.grid engine.0) refl refl (table_of (length e.grid.devices) b.rows) (cut_of b.cuts) b.cost)

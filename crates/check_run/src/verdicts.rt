@@ -9,6 +9,7 @@ ghost use Rattle.bound_checker.specs.Verdict.{verdict_of};
 ghost use Rattle.outage_engine.specs.Engined.{IsEngineAfter, IsEngine};
 ghost use Rattle.run_rules.specs.Told.{check_word, place_word, verdict_text, IsPlaceOf, IsVerdictOf};
 ghost use Rattle.run_rules.specs.Run.{status_of};
+ghost use Rattle.check_run.specs.Reported.{IsVerdictOn, Judges};
 
 use bound_checker::{CheckRule, Place, Verdict, check};
 use bound_table::Bounds;
@@ -17,16 +18,20 @@ use outage_engine::Engine;
 use run_rules::Status;
 use std::alloc::{AllocError, Global};
 
-/// The verdict of the local check on bounds: whether they show the least cost of the events. An
-/// error says that memory ran out.
-pub(crate) fn verdict_by(
-    alloc: Global,
-    engine: &Engine,
-    bounds: &Bounds,
-) -> Result<Verdict, AllocError>
+/// What a check finds on bounds: the verdict, and its text.
+#[derive(Drop)]
+pub(crate) struct Finding {
+    pub(crate) verdict: Verdict,
+    pub(crate) text: Vec<u8>,
+}
+
+// The verdict of the local check on bounds: whether they show the least cost of the events. An
+// error says that memory ran out.
+#[tactic(auto, unfolding(crate::specs::Reported::IsVerdictOn))]
+fn verdict_by(alloc: Global, engine: &Engine, bounds: &Bounds) -> Result<Verdict, AllocError>
     requires engine { IsEngine engine.now }
     requires of_network { IsTableOf engine.now.grid bounds.now }
-    ensures { IfOk result (λ v. (h : List Event) → IsEngineAfter h engine.now → v ≡ verdict_of (problem_after engine.now.grid h) (table_of (length engine.now.grid.devices) bounds.now.rows) (cut_of bounds.now.cuts) bounds.now.cost) }
+    ensures { IfOk result (IsVerdictOn engine.now bounds.now) }
 {
     check(alloc, engine.grid(), engine.field(), bounds)
 }
@@ -89,9 +94,9 @@ fn put_invalid(
     Ok(())
 }
 
-/// What a check writes of a verdict: `valid`, or `invalid,RULE,NAME` with the name of the node or
-/// the device, `-` where the whole is meant. An error says that memory ran out.
-pub(crate) fn text_of(alloc: Global, grid: &Grid, verdict: Verdict) -> Result<Vec<u8>, AllocError>
+// What a check writes of a verdict: `valid`, or `invalid,RULE,NAME` with the name of the node or
+// the device, `-` where the whole is meant. An error says that memory ran out.
+fn text_of(alloc: Global, grid: &Grid, verdict: Verdict) -> Result<Vec<u8>, AllocError>
     requires { IsVerdictOf grid.now verdict }
     ensures { IfOk result (λ text. text.items ≡ verdict_text grid.now verdict) }
 {
@@ -101,4 +106,19 @@ pub(crate) fn text_of(alloc: Global, grid: &Grid, verdict: Verdict) -> Result<Ve
         Verdict::Invalid { rule, place } => put_invalid(&mut text, grid, rule, place)?,
     }
     Ok(text)
+}
+
+/// What is found on bounds, by the engine after all events. An error says that memory ran out.
+pub(crate) fn finding_on(
+    alloc: Global,
+    engine: &Engine,
+    bounds: &Bounds,
+) -> Result<Finding, AllocError>
+    requires engine { IsEngine engine.now }
+    requires of_network { IsTableOf engine.now.grid bounds.now }
+    ensures { IfOk result (λ found. Judges engine.now bounds.now found.verdict found.text.items) }
+{
+    let verdict = verdict_by(alloc, engine, bounds)?;
+    let text = text_of(alloc, engine.grid(), verdict)?;
+    Ok(Finding { verdict, text })
 }

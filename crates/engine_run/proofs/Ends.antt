@@ -1,9 +1,9 @@
 -- What holds where a run ends.
-use Rattle.std.proofs.Common.{◌≡◌, ◌≤◌, ℕ, ◌+◌, true, false, List, [], ◌++◌, length, take, Option, None, Some, inl, inr, refl, sym, ap, ◌∙◌, subst, arith}
-use Rattle.std.specs.Prelude.{nat_le, if◌then◌else◌, Result, Ok, Err, IsErrOf, is_ok}
+use Rattle.std.proofs.Common.{◌≡◌, ◌≤◌, ℕ, ◌+◌, true, false, List, [], ◌++◌, length, take, Option, None, Some, inl, inr, refl, sym, ap, ◌∙◌, subst, arith, Ok, OnOk}
+use Rattle.std.specs.Prelude.{nat_le, if◌then◌else◌, Result, Err, IsErrOf}
 use Rattle.std.specs.Io.KnownBytes.{Appends}
 use Rattle.std.proofs.Math.Seq.{take-append-add}
-use Rattle.std.proofs.lemmas.Bool.{and_from, le-leb, false≢true}
+use Rattle.std.proofs.lemmas.Bool.{and_from, le-leb}
 use Rattle.std.proofs.lemmas.List.{append_assoc, append-nil, length-append, take-append-le}
 use Rattle.grid_model.specs.Parts.{Parts}
 use Rattle.grid_model.specs.declared.history.Event.{Event}
@@ -19,7 +19,10 @@ use Rattle.history_rules.specs.Laws.{LinesOfLimit}
 use Rattle.outage_engine.specs.Engined.{Engined, IsEngineAfter}
 use Rattle.outage_ports.specs.Bytes.{Files, AppendsPrefix}
 use Rattle.command_words.specs.Forms.{Places, Replay}
-use Rattle.run_rules.specs.Files.{most_events, most_event_lines}
+use Rattle.run_rules.specs.Reading.{IsWhole, IsFileStop}
+use Rattle.line_entries.specs.declared.fault.PutFault.{PutFault}
+use Rattle.line_entries.specs.declared.fault.PutFault.TheVariants as put
+use Rattle.run_rules.specs.Files.{most_network, most_events, most_event_lines}
 use Rattle.run_rules.specs.Told.{last_problem, bounds_part, report_after, output, is_within_limits, entries_taken, text_due}
 use Rattle.run_rules.specs.Run.{run_of, CanReplay, CanBegin, IsSilentReplay}
 use Rattle.run_rules.specs.Closing.{IsToldThroughout, ShowsBounds}
@@ -29,15 +32,11 @@ use Rattle.event_run.specs.declared.reading.EventsStop.{EventsStop}
 use Rattle.event_run.specs.declared.reading.EventsStop.TheVariants as ends
 use Rattle.run_rules.specs.Faults.{TellsFaults}
 use Rattle.run_rules.proofs.FaultsTold.{tells_as}
-use Rattle.engine_run.specs.Ended.{Runs, DidRun, DidSayNetwork, IsNetworkStop, IsRunStop, status_of_stop}
+use Rattle.engine_run.specs.Ended.{Runs, DidRun, DidSayNetwork, IsTextStop, IsNetworkStop, IsRunStop, status_of_stop, status_of_put}
 use Rattle.run_rules.specs.declared.status.Status.{Status}
 use Rattle.run_rules.specs.declared.status.Status.TheVariants.{Done, Invalid, Usage, ReadFault, WriteFault, NetworkRefused, ReportRefused, Limit, Memory}
 use Rattle.run_rules.specs.declared.status.Which.TheVariants.{NetworkBytes, EventLines, EventBytes, ReportBytes}
 use Rattle.command_words.specs.declared.words.Wish.{Wish}
-
--- what went well is no error
-pub no_error : {X E : Type 0} (r : Result X E) (x : X) (e : E) → r ≡ Ok x → IsErrOf r e → ⊥
-no_error r x e is err = false≢true (ap is_ok (sym err) ∙ ap is_ok is)
 
 -- two texts, one behind the other
 appends_both : (before mid now : Option (List ℕ)) (front rest : List ℕ) → Appends before mid front → Appends mid now rest → Appends before now (front ++ rest)
@@ -92,6 +91,43 @@ network_end (Some files) left_before left out places wish (Limit EventLines) sto
 network_end (Some files) left_before left out places wish (Limit EventBytes) stop = absurd stop
 network_end (Some files) left_before left out places wish (Limit ReportBytes) stop = absurd stop
 network_end (Some files) left_before left out places wish Memory stop = inl refl
+
+-- where the file was not read whole, there is no network
+pub file_stop : (files : Option Files) (before left : Option (List ℕ)) (name : List ℕ) (status : Status) → IsFileStop files before left name most_network NetworkBytes status → IsNetworkStop files before left name status
+file_stop files before left name Done stop = stop
+file_stop files before left name (Invalid rule) stop = stop
+file_stop files before left name Usage stop = stop
+file_stop files before left name ReadFault stop = stop
+file_stop files before left name WriteFault stop = stop
+file_stop files before left name (NetworkRefused line rule) stop = absurd stop
+file_stop files before left name (ReportRefused line rule) stop = absurd stop
+file_stop files before left name (Limit NetworkBytes) stop = stop.1
+file_stop files before left name (Limit EventLines) stop = let other = stop.0 in absurd cc
+file_stop files before left name (Limit EventBytes) stop = let other = stop.0 in absurd cc
+file_stop files before left name (Limit ReportBytes) stop = let other = stop.0 in absurd cc
+file_stop files before left name Memory stop = tt
+
+-- and where its text says none
+pub text_stop : (files : Option Files) (before left : Option (List ℕ)) (name text : List ℕ) (status : Status) → IsWhole files left name most_network text → IsTextStop text status → IsNetworkStop files before left name status
+text_stop files before left name text Done whole stop = absurd stop
+text_stop files before left name text (Invalid rule) whole stop = absurd stop
+text_stop files before left name text Usage whole stop = absurd stop
+text_stop files before left name text ReadFault whole stop = absurd stop
+text_stop files before left name text WriteFault whole stop = absurd stop
+text_stop None before left name text (NetworkRefused line rule) whole stop = tt
+text_stop (Some files) before left name text (NetworkRefused line rule) whole stop = record { bytes = text; file = whole.0; refused = stop }
+text_stop files before left name text (ReportRefused line rule) whole stop = absurd stop
+text_stop files before left name text (Limit which) whole stop = absurd stop
+text_stop files before left name text Memory whole stop = tt
+
+-- and where it says one
+pub text_network : (files : Option Files) (left : Option (List ℕ)) (name text : List ℕ) (g : Parts) → IsWhole files left name most_network text → grid_text text ≡ IsGrid g → DidSayNetwork files left name g
+text_network None left name text g whole says = tt
+text_network (Some files) left name text g whole says = (record { bytes = text; file = whole.0; grid = says }, whole.1)
+
+-- a text's stop is no failed read
+pub text_read : (text : List ℕ) (status : Status) → IsTextStop text status → status ≡ ReadFault → ⊥
+text_read text status stop is = subst (IsTextStop text) is stop
 
 pub network_kind : (files : Option Files) (left_before left : Option (List ℕ)) (name : List ℕ) (status : Status) → IsNetworkStop files left_before left name status → IsRunStop status
 network_kind files left_before left name Done stop = stop
@@ -154,6 +190,28 @@ module _ {X Y : Type 0} (r : Result X EventsStop) (q : Result Y Status) (s : Eve
       tells_as a b (IsErrOf r ends.WriteFailed) (IsErrOf q WriteFault)
       (λ e. let same : s ≡ ends.WriteFailed = cc in let told = ap status_of_stop same in cc)
       (λ e. let same : status_of_stop s ≡ WriteFault = cc in let named = write_of s same in cc) tells
+
+-- what a last write tells
+put_written : (r : Result (Unit {0}) PutFault) → status_of_put r ≡ WriteFault → IsErrOf r put.Write
+put_written (Ok done) e = absurd cc
+put_written (Err put.Write) e = refl
+put_written (Err put.Memory) e = absurd cc
+
+pub put_told : (r : Result (Unit {0}) PutFault) (status : Status) (a b : ℕ) → status ≡ status_of_put r → TellsFaults a b (IsErrOf r put.Write) → TellsFaults a b (status ≡ WriteFault)
+put_told r status a b is tells =
+    tells_as a b (IsErrOf r put.Write) (status ≡ WriteFault) (λ e. is ∙ ap status_of_put e) (λ e. put_written r (sym is ∙ e)) tells
+
+-- it reads nothing
+pub put_read : (r : Result (Unit {0}) PutFault) → status_of_put r ≡ ReadFault → ⊥
+put_read (Ok done) e = cc
+put_read (Err put.Write) e = cc
+put_read (Err put.Memory) e = cc
+
+-- and it isn't said that nothing was written
+pub put_loud : (r : Result (Unit {0}) PutFault) → IsSilentReplay (status_of_put r) → ⊥
+put_loud (Ok done) silent = silent
+put_loud (Err put.Write) silent = silent
+put_loud (Err put.Memory) silent = silent
 
 -- memory may run out before anything is written
 pub idle_end : (files : Option Files) (left_before left out : Option (List ℕ)) (places : Places) (wish : Wish) → IsEnd (run_of files left_before left out out (Some (Replay places wish))) Memory
@@ -314,3 +372,17 @@ module _ (law : LinesOfLimit) (left_before left before mid now : Option (List �
       told = told ran.network.bytes e.grid ran.events.bytes ran.network.grid;
       shown = shown ran.network.bytes e.grid ran.events.bytes ran.network.grid;
     }
+
+-- a replay ends as its last write does
+pub replay_ended : LinesOfLimit → (left_before left before mid now : Option (List ℕ)) (places : Places) (wish : Wish) (e : Engined) (refused : ℕ) (files : Option Files) (r : Result (Unit {0}) PutFault) →
+    ((text : List ℕ) (g : Parts) (events : List ℕ) → grid_text text ≡ IsGrid g → IsToldThroughout g events) →
+    ((text : List ℕ) (g : Parts) (events : List ℕ) → grid_text text ≡ IsGrid g → ShowsBounds g events) →
+    OnOk r ((h : List Event) → IsEngineAfter h e → Appends mid now (report_after e.grid wish refused h)) →
+    ((h : List Event) → IsEngineAfter h e → AppendsPrefix mid now (report_after e.grid wish refused h)) →
+    DidRun files places left before mid e refused → IsEnd (run_of files left_before left before now (Some (Replay places wish))) (status_of_put r)
+replay_ended law left_before left before mid now places wish e refused files (Ok done) told shown all part ran =
+    replay_done law left_before left before mid now places wish e refused all files told shown ran
+replay_ended law left_before left before mid now places wish e refused files (Err put.Write) told shown all part ran =
+    replay_part law left_before left before mid now places wish e refused part files ran
+replay_ended law left_before left before mid now places wish e refused files (Err put.Memory) told shown all part ran =
+    replay_memory law left_before left before mid now places wish e refused part files ran

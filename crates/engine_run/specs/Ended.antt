@@ -1,17 +1,20 @@
 -- What the run over the network and the events says of their files.
-use Rattle.std.specs.Prelude.{◌≡◌, ⊤, ℕ, List, [], Option, None, Some}
+use Rattle.std.specs.Prelude.{◌≡◌, ⊤, ℕ, List, [], Option, None, Some, Result, Ok, Err}
 use Rattle.grid_model.specs.Parts.{Parts}
 use Rattle.outage_engine.specs.Engined.{Engined}
 use Rattle.outage_ports.specs.Bytes.{Files}
 use Rattle.command_words.specs.Forms.{Places}
-use Rattle.whole_file.specs.Whole.{StopsUnread}
+use Rattle.grid_reader.specs.Text.{grid_text, IsRefusedAt}
+use Rattle.line_entries.specs.declared.fault.PutFault.{PutFault}
+use Rattle.line_entries.specs.declared.fault.PutFault.TheVariants as put
+use Rattle.run_rules.specs.Reading.{WhereTold, StopsUnread}
 use Rattle.run_rules.specs.Files.{most_network, IsTooLong, SaysNetwork, RefusesNetworkAt}
 use Rattle.event_run.specs.Reading.{ReadsAll}
 use Rattle.event_run.specs.declared.reading.EventsStop.{EventsStop}
 use Rattle.event_run.specs.declared.reading.EventsStop.TheVariants.{ReadFailed, WriteFailed, TooManyLines, TooManyBytes}
 use Rattle.event_run.specs.declared.reading.EventsStop.TheVariants as ends
 use Rattle.run_rules.specs.declared.status.Status.{Status}
-use Rattle.run_rules.specs.declared.status.Status.TheVariants.{ReadFault, WriteFault, NetworkRefused, Limit, Memory}
+use Rattle.run_rules.specs.declared.status.Status.TheVariants.{Done, ReadFault, WriteFault, NetworkRefused, Limit, Memory}
 use Rattle.run_rules.specs.declared.status.Which.TheVariants.{NetworkBytes, EventLines, EventBytes}
 
 -- the network was read, and then all events, whose entries were written
@@ -22,11 +25,6 @@ pub record Runs (files : Files) (places : Places) (left before now : Option (Lis
 abbrev pub DidRun : Option Files → Places → Option (List ℕ) → Option (List ℕ) → Option (List ℕ) → Engined → ℕ → Type 0
 DidRun None places left before now e refused = ⊤
 DidRun (Some files) places left before now e refused = Runs files places left before now e refused
-
--- so is it where the files are told
-abbrev pub WhereTold : Option Files → (Files → Type 0) → Type 0
-WhereTold None says = ⊤
-WhereTold (Some files) says = says files
 
 -- the file says this network, and was read to its end
 abbrev pub DidSayNetwork : Option Files → Option (List ℕ) → List ℕ → Parts → Type 0
@@ -39,6 +37,18 @@ IsNetworkStop files before left name (Limit NetworkBytes) = WhereTold files (λ 
 IsNetworkStop files before left name (NetworkRefused line rule) = WhereTold files (λ told. RefusesNetworkAt told name line rule)
 IsNetworkStop files before left name Memory = ⊤
 IsNetworkStop files before left name status = ⊥
+
+-- why a text gives no engine: it says no network, or memory ran out
+abbrev pub IsTextStop : List ℕ → Status → Type 0
+IsTextStop text (NetworkRefused line rule) = grid_text text ≡ IsRefusedAt line rule
+IsTextStop text Memory = ⊤
+IsTextStop text status = ⊥
+
+-- the status of a run that ends with its last write
+abbrev pub status_of_put : Result (Unit {0}) PutFault → Status
+status_of_put (Ok done) = Done
+status_of_put (Err put.Write) = WriteFault
+status_of_put (Err put.Memory) = Memory
 
 -- the status of a run that stops before the end of the events
 abbrev pub status_of_stop : EventsStop → Status

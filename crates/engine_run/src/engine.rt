@@ -1,25 +1,25 @@
 //! From the files of a network and its events to the engine after them.
-ghost use Rattle.std.specs.Prelude.{◌≡◌, ◌≤◌, Some, IfOk, IfErr, IsErrOf};
-ghost use Rattle.outage_engine.specs.Engined.{IsEngine};
+ghost use Rattle.std.specs.Prelude.{◌≡◌, ◌≤◌, [], length, Some, IfOk, IfErr, IsErrOf};
+ghost use Rattle.outage_engine.specs.Engined.{IsEngineAfter, IsEngine};
 ghost use Rattle.command_words.specs.Forms.{Replay};
 ghost use Rattle.command_words.specs.Seen.{places_view};
 ghost use Rattle.command_words.specs.declared.words.Wish.{Wish};
 ghost use Rattle.run_rules.specs.Faults.{TellsFaults};
-ghost use Rattle.run_rules.specs.Files.{most_event_lines};
+ghost use Rattle.grid_reader.specs.Text.{grid_text, IsGrid};
+ghost use Rattle.run_rules.specs.Files.{most_network, most_event_lines};
 ghost use Rattle.run_rules.specs.Run.{run_of, IsSilentReplay};
 ghost use Rattle.run_rules.specs.Ends.{IsEnd};
-ghost use Rattle.engine_run.specs.Ended.{DidRun, DidSayNetwork, IsNetworkStop};
-ghost use Rattle.engine_run.specs.Ended.{IsRunStop, status_of_stop};
+ghost use Rattle.engine_run.specs.Ended.{DidRun, DidSayNetwork, IsTextStop, IsNetworkStop, IsRunStop};
 
+use crate::limited::read_limited;
+use crate::statuses::status_by;
 use command_words::Places;
-use event_run::{EventsStop, run_events};
-use grid_model::Grid;
+use event_run::run_events;
 use grid_reader::{GridFault, read_grid};
 use outage_engine::Engine;
 use outage_ports::{Shelf, Sink};
 use run_rules::{Status, Which};
 use std::alloc::Global;
-use whole_file::{Stop, read_whole};
 
 /// The greatest number of bytes of a network.
 const MOST_NETWORK: usize = 67_108_864;
@@ -31,46 +31,39 @@ pub struct Ran {
     pub refused: u64,
 }
 
-// The network of a file.
-fn read_network<S: Shelf>(alloc: Global, name: &str, shelf: &mut S) -> Result<Grid, Status>
+/// The engine of a network text, before its first event. The error is the status of a run that ends
+/// there.
+pub fn engine_over(alloc: Global, network: &[u8]) -> Result<Engine, Status>
+    requires size { length network.now ≤ most_network }
+    ensures engine { IfOk result (IsEngineAfter []) }
+    ensures grid { IfOk result (λ engine. grid_text network.now ≡ IsGrid engine.grid) }
+    ensures stopped { IfErr result (IsTextStop network.now) }
+{
+    let grid = match read_grid(alloc, network) {
+        Ok(grid) => grid,
+        Err(GridFault::Refused { line, rule }) => return Err(Status::NetworkRefused { line, rule }),
+        Err(GridFault::Memory) => return Err(Status::Memory),
+    };
+    match Engine::new(alloc, grid) {
+        Ok(engine) => Ok(engine),
+        Err(_) => Err(Status::Memory),
+    }
+}
+
+// The engine of a network in a file, before its first event.
+fn start_engine<S: Shelf>(alloc: Global, name: &str, shelf: &mut S) -> Result<Engine, Status>
     requires allowed { S.allows name.now }
     ensures files { S.files shelf.new ≡ S.files shelf.old }
-    ensures network { IfOk result (DidSayNetwork (S.files shelf.old) (S.left shelf.new) name.now) }
+    ensures engine { IfOk result (IsEngineAfter []) }
+    ensures network { IfOk result (λ engine. DidSayNetwork (S.files shelf.old) (S.left shelf.new)
+        name.now engine.grid) }
     ensures stopped { IfErr result (IsNetworkStop (S.files shelf.old) (S.left shelf.old)
         (S.left shelf.new) name.now) }
     ensures shelf { TellsFaults (S.faults shelf.old) (S.faults shelf.new)
         (IsErrOf result Status.ReadFault) }
 {
-    let text = match read_whole(alloc, shelf, name, MOST_NETWORK) {
-        Ok(text) => text,
-        Err(Stop::Failed) => return Err(Status::ReadFault),
-        Err(Stop::TooLong) => return Err(Status::Limit {
-            which: Which::NetworkBytes,
-        }),
-        Err(Stop::Memory) => return Err(Status::Memory),
-    };
-    match read_grid(alloc, &text) {
-        Ok(grid) => Ok(grid),
-        Err(GridFault::Refused { line, rule }) => Err(Status::NetworkRefused { line, rule }),
-        Err(GridFault::Memory) => Err(Status::Memory),
-    }
-}
-
-/// The status of a run that stops before the end of the events.
-pub fn status_by(stop: EventsStop) -> Status
-    ensures { result ≡ status_of_stop stop }
-{
-    match stop {
-        EventsStop::ReadFailed => Status::ReadFault,
-        EventsStop::WriteFailed => Status::WriteFault,
-        EventsStop::TooManyLines => Status::Limit {
-            which: Which::EventLines,
-        },
-        EventsStop::TooManyBytes => Status::Limit {
-            which: Which::EventBytes,
-        },
-        EventsStop::Memory => Status::Memory,
-    }
+    let text = read_limited(alloc, shelf, name, MOST_NETWORK, Which::NetworkBytes)?;
+    engine_over(alloc, &text)
 }
 
 /// The run over all events: reads the network whole, and then the events in pieces, whose
@@ -100,13 +93,7 @@ pub fn run_engine<S: Shelf, K: Sink>(
     ensures out { TellsFaults (K.faults out.old) (K.faults out.new)
         (IsErrOf result Status.WriteFault) }
 {
-    let grid = match read_network(alloc, places.net, shelf) {
-        Ok(grid) => grid,
-        Err(status) => return Err(status),
-    };
-    let Ok(mut engine) = Engine::new(alloc, grid) else {
-        return Err(Status::Memory);
-    };
+    let mut engine = start_engine(alloc, places.net, shelf)?;
     match run_events(alloc, shelf, places.events, &mut engine, out, at_once) {
         Ok(refused) => Ok(Ran { engine, refused }),
         Err(stop) => Err(status_by(stop)),

@@ -2,7 +2,11 @@
 #![tactic(auto)]
 
 mod engine;
+mod limited;
 mod nowhere;
+mod statuses;
 
-pub use engine::{Ran, run_engine, status_by};
+pub use engine::{Ran, engine_over, run_engine};
+pub use limited::read_limited;
 pub use nowhere::Nowhere;
+pub use statuses::{status_after, status_by};

@@ -1,9 +1,7 @@
 -- What was read of the events, and what was written of them.
-use Rattle.std.proofs.Common.{◌≡◌, ℕ, ◌+◌, ◌<◌, ◌≤◌, false, refl, sym, ap, ◌∙◌, subst, arith, inl, inr, List, [], ◌∷◌, ◌++◌, length, take, drop, append_assoc, append-nil, Option, Some, None, Result, Ok, Err}
-use Rattle.std.specs.Prelude.{OnOk, is_err, IsErrOf}
+use Rattle.std.proofs.Common.{◌≡◌, ℕ, ◌+◌, ◌<◌, ◌≤◌, refl, sym, ap, ◌∙◌, subst, arith, inl, inr, List, [], ◌∷◌, ◌++◌, length, take, drop, append_assoc, append-nil, Option, Some, None, Result, Ok, Err}
 use Rattle.std.specs.Io.KnownBytes.{Appends}
-use Rattle.std.proofs.lemmas.List.{length-append, length-take, take_at, take-append-drop, take-append-le, take-take}
-use Rattle.std.proofs.Math.Seq.{take-append-add}
+use Rattle.std.proofs.lemmas.List.{length-append, length-take, take_at, take-append-drop, take-take}
 use Rattle.grid_model.specs.Parts.{Parts}
 use Rattle.event_rules.specs.Lines.{lines}
 use Rattle.line_text.specs.Cutting.{IsAtPart, ended_from, part_from, last_line}
@@ -14,9 +12,7 @@ use Rattle.history_rules.specs.Report.{refused_in}
 use Rattle.history_rules.specs.Laws.{LinesOfLimit, RunOfParts}
 use Rattle.outage_engine.specs.Engined.{Engined, IsEngineAfter}
 use Rattle.outage_ports.specs.Bytes.{Files, Starts, Takes, AppendsPrefix}
-use Rattle.whole_file.specs.Whole.{Took}
-use Rattle.run_rules.specs.Faults.{TellsFaults}
-use Rattle.run_rules.proofs.FaultsTold.{tells_as}
+use Rattle.run_rules.specs.Reading.{Took}
 use Rattle.run_rules.specs.Files.{most_events, most_event_lines}
 use Rattle.run_rules.specs.Told.{entries_taken}
 use Rattle.event_run.specs.Reading.{DidReadAll, DidStop, DidMeetLines, DidMeetBytes, DidWritePart, Stops}
@@ -24,13 +20,11 @@ use Rattle.event_run.specs.declared.taken.Taken.{Taken}
 use Rattle.event_run.specs.declared.run.Run.{Run}
 use Rattle.event_run.specs.declared.reading.EventsStop.{EventsStop}
 use Rattle.event_run.specs.declared.reading.EventsStop.TheVariants as ends
-use Rattle.event_run.specs.Pieces.{HasTaken, HasRead, HasWritten, StopsAmong, MeetsOne, WritesPart, LeadsAmong, LeadsTo}
-use Rattle.event_run.specs.Reached.{Reached, IsAllOf, Finished, Leads}
-use Rattle.event_run.specs.declared.reading.Progress.{Progress}
+use Rattle.event_run.specs.Pieces.{HasRead, HasWritten, StopsAmong, MeetsOne, WritesPart, LeadsAmong, LeadsTo}
+use Rattle.event_run.specs.Reached.{Reached, IsAllOf, Finished}
 use Rattle.event_run.proofs.Written.{appends_same, prefix_of_more}
 use Rattle.event_run.proofs.PutLines.{put_of, none_put}
 use Rattle.event_run.proofs.PieceLines.{ended_append, lines_are}
-use Rattle.event_run.proofs.TakenLines.{events_few}
 use Rattle.event_run.proofs.EndedLines.{ended_are, within_all, within_first, within_front, taken_front, one_more}
 
 -- these bytes stand at the front of the file
@@ -196,8 +190,8 @@ all_read (Some files) left name before now g run e refused end is = record {
 }
 
 -- before the first byte
-pub reached_none : (files : Option Files) (name : List ℕ) (left now : Option (List ℕ)) (run : Run) (e : Engined) → Took files left name [] → HasRead [] now now e.grid run e → Reached files name left now now e.grid run e most_events
-reached_none files name left now run e took read = record { bytes = []; took = took; read = read; size = refl }
+pub reached_none : (files shelf : Option Files) (name : List ℕ) (left now : Option (List ℕ)) (run : Run) (e : Engined) → Took files left name [] → shelf ≡ files → HasRead [] now now e.grid run e → Reached files shelf name left now now e.grid run e most_events
+reached_none files shelf name left now run e took same read = record { same = same; bytes = []; took = took; read = read; size = refl }
 
 -- a piece that was taken, of which no more bytes than may be
 pub piece_lines : LinesFromParts → (files : Option Files) (left : Option (List ℕ)) (name bytes into : List ℕ) (n m room : ℕ) → Took files left name (bytes ++ take n into) → m ≤ n → m ≤ room → length bytes + room ≡ most_events
@@ -239,22 +233,3 @@ end_leads law bytes before now g taken e r leads = subst (λ ls. LeadsAmong ls b
 -- memory ran out before any of more lines was taken
 pub none_taken : (all more : List (List ℕ)) (before now : Option (List ℕ)) (g : Parts) (taken : Taken) (e : Engined) → HasWritten all before now g taken e → WritesPart (all ++ more) before now g
 none_taken all more before now g taken e has = none_put all more (all ++ more) before now g taken e refl has.grid (put_of all before now g taken e has)
-
--- no more events were applied than lines count
-pub taken_few : (lines : List (List ℕ)) (written : List ℕ) (taken : Taken) (e : Engined) → HasTaken lines written taken e → e.field.applied ≤ most_event_lines
-taken_few lines written taken e has =
-    let few = has.few in
-    let count = has.engine.field.count in
-    omega (arith, events_few e.grid [] lines)
-
--- one more read leads on from where the run had come
-pub leads_on : (files same : Option Files) → same ≡ files → (g h : Parts) → h ≡ g → (name : List ℕ) (left next before now later : Option (List ℕ)) (run new : Run) (e more : Engined) (room : ℕ) (r : Result Progress EventsStop)
-    → ((n : List ℕ) (b : Option (List ℕ)) → Reached same n left b now h run e room → Leads same n next b later h new more r)
-    → Reached files name left before now g run e room → Leads files name next before later g new more r
-leads_on files same are g h is name left next before now later run new e more room r leads =
-    let on : Option Files → Parts → Type 0 = λ f p. Reached f name left before now p run e room → Leads f name next before later p new more r in
-    subst (λ f. on f g) are (subst (on same) is (leads name before))
-
--- a stop that is passed on tells the same of faults
-pub told_alike : {X Y : Type 0} (r : Result X EventsStop) (q : Result Y EventsStop) (stop named : EventsStop) → r ≡ Err stop → q ≡ Err stop → (a b : ℕ) → TellsFaults a b (IsErrOf r named) → TellsFaults a b (IsErrOf q named)
-told_alike r q stop named stopped passed a b tells = tells_as a b (IsErrOf r named) (IsErrOf q named) (λ e. cc) (λ e. cc) tells

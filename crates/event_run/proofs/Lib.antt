@@ -7,3 +7,5 @@ pub mod PieceLines
 pub mod EndedLines
 pub mod EventsRead
 pub mod BlockLines
+pub mod Told
+pub mod ReadOn

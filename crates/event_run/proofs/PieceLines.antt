@@ -6,7 +6,6 @@ use Rattle.event_rules.specs.Lines.{lines}
 use Rattle.line_text.specs.LineEnds.{without_cr}
 use Rattle.line_text.specs.Cutting.{IsAtPart, line_ended, part_with, last_line, lines_from, ended_from, part_from}
 use Rattle.line_text.specs.Laws.{LinesFromParts}
-use Rattle.grid_model.specs.Parts.{Parts}
 use Rattle.history_rules.specs.Run.{history_in}
 use Rattle.history_rules.specs.Output.{entries}
 use Rattle.outage_engine.specs.Engined.{Engined, IsEngineAfter}

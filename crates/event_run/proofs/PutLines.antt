@@ -1,19 +1,18 @@
 -- Lines that were taken, and what becomes of their entries.
-use Rattle.std.proofs.Common.{◌≡◌, ◌≤◌, true, false, refl, sym, ap, ◌∙◌, subst, arith, ℕ, List, [], ◌∷◌, ◌++◌, length, append-nil, append_assoc, Option, Result, Ok, Err}
+use Rattle.std.proofs.Common.{◌≡◌, true, false, refl, sym, ap, ◌∙◌, subst, arith, ℕ, List, [], ◌∷◌, ◌++◌, append-nil, append_assoc, Option, Result, Ok, Err}
 use Rattle.std.specs.Prelude.{OnOk, OnErr, is_err}
+use Rattle.std.specs.Result.{IsErrAnd}
 use Rattle.std.specs.Io.KnownBytes.{Appends}
 use Rattle.grid_model.specs.Parts.{Parts}
-use Rattle.history_rules.specs.Run.{counted}
 use Rattle.history_rules.specs.Output.{entries}
 use Rattle.outage_engine.specs.Engined.{Engined}
 use Rattle.outage_ports.specs.Bytes.{AppendsPrefix}
-use Rattle.run_rules.specs.Files.{most_event_lines}
 use Rattle.event_run.specs.declared.taken.Taken.{Taken}
 use Rattle.event_run.specs.declared.taken.LineStop.{LineStop}
 use Rattle.event_run.specs.declared.taken.LineStop.TheVariants as cut
 use Rattle.event_run.specs.declared.reading.EventsStop.{EventsStop}
 use Rattle.event_run.specs.declared.reading.EventsStop.TheVariants as ends
-use Rattle.event_run.specs.Pieces.{HasTaken, HasPut, HasWritten, IsEmptied, IsOneTooMany, Enters, StopsAmong, WritesPart, LeadsNext, LeadsAmong}
+use Rattle.event_run.specs.Pieces.{HasTaken, HasPut, HasWritten, IsEmptied, IsOneTooMany, TakesNext, Writes, Enters, StopsAmong, MeetsOne, WritesPart, LeadsNext, LeadsAmong}
 use Rattle.event_run.proofs.Written.{appends_both, appends_same, prefix_whole, prefix_of_more, prefix_behind}
 
 -- what an answer says
@@ -27,6 +26,33 @@ at_done r P h e = subst (λ x. OnOk x P) e h
 pub at_failed : {E : Type 0} (r : Result (Unit {0}) E) (P : Type 0) → OnErr r P → is_err r ≡ true → P
 at_failed (Ok tt) P h e = cc
 at_failed (Err x) P h e = h
+
+-- what stands where a call didn't fail, stands where a later one didn't
+pub entered_on : (before now : Option (List ℕ)) (taken new : Taken) (answer : Result (Unit {0}) LineStop) (result : Result (Unit {0}) EventsStop) (P : Type 0) → Enters before now taken new answer result → OnOk answer P → OnOk result P
+entered_on before now taken new answer (Ok tt) P enters ok = subst (λ r. OnOk r P) enters.0 ok
+entered_on before now taken new answer (Err stop) P enters ok = tt
+
+-- the entries of a line that was taken are written
+pub entered_all : (before now : Option (List ℕ)) (taken new : Taken) (answer : Result (Unit {0}) LineStop) (result : Result (Unit {0}) EventsStop) → answer ≡ Ok tt → Writes before now taken new result → Enters before now taken new answer result
+entered_all before now taken new answer (Ok tt) is writes = (is, writes.0, writes.1)
+entered_all before now taken new answer (Err ends.WriteFailed) is part = (λ e. cc, part)
+entered_all before now taken new answer (Err ends.TooManyLines) is none = absurd none
+entered_all before now taken new answer (Err ends.Memory) is none = absurd none
+entered_all before now taken new answer (Err ends.ReadFailed) is none = absurd none
+entered_all before now taken new answer (Err ends.TooManyBytes) is none = absurd none
+
+-- or their write stops at a line that is one too many
+pub entered_part : (before now : Option (List ℕ)) (taken new : Taken) (answer : Result (Unit {0}) LineStop) (stop : EventsStop) (result : Result (Unit {0}) EventsStop) → answer ≡ Err cut.TooMany → IsErrAnd result (λ s. s ≡ stop)
+    → Writes before now taken new (Err stop) → Enters before now taken new answer result
+entered_part before now taken new answer stop (Ok tt) is passed writes = absurd passed
+entered_part before now taken new answer stop (Err named) is passed writes = by_stop named (subst (λ s. Writes before now taken new (Err s)) (sym passed) writes)
+  where
+    by_stop : (s : EventsStop) → Writes before now taken new (Err s) → Enters before now taken new answer (Err s)
+    by_stop ends.WriteFailed part = (λ e. cc, part)
+    by_stop ends.TooManyLines none = absurd none
+    by_stop ends.Memory none = absurd none
+    by_stop ends.ReadFailed none = absurd none
+    by_stop ends.TooManyBytes none = absurd none
 
 -- what is printed of lines, by the network of an engine
 pub printed_by : (lines : List (List ℕ)) (written : List ℕ) (taken : Taken) (e : Engined) (g : Parts) → HasTaken lines written taken e → e.grid ≡ g → written ++ taken.entries.bytes.items ≡ entries g 1 [] lines
@@ -105,36 +131,40 @@ module _ (lines : List (List ℕ)) (line : List ℕ) (before mid now : Option (L
   next_kept has = record { written = put.written; has = has; out = put.out }
 
   -- a write failed
-  next_failed : (answer : Result (Unit {0}) LineStop) → (answer ≡ Ok tt → HasTaken (lines ++ line ∷ []) put.written taken more) → (answer ≡ Err cut.TooMany → taken ≡ old) → (answer ≡ Err cut.Memory → ⊥)
+  next_failed : (answer : Result (Unit {0}) LineStop) → TakesNext lines line put.written old taken more answer → (answer ≡ Err cut.Memory → ⊥)
       → AppendsPrefix mid now taken.entries.bytes.items → WritesPart (lines ++ line ∷ []) before now g
-  next_failed (Ok tt) takes kept none part =
-      part_put (lines ++ line ∷ []) [] (lines ++ line ∷ []) before mid now g taken more (sym (append-nil (lines ++ line ∷ []))) grid (next_kept (takes refl)) part
-  next_failed (Err cut.TooMany) takes kept none part =
-      part_put lines (line ∷ []) (lines ++ line ∷ []) before mid now g old e refl same put (subst (λ (t : Taken). AppendsPrefix mid now t.entries.bytes.items) (kept refl) part)
-  next_failed (Err cut.Memory) takes kept none part = absurd (none refl)
+  next_failed (Ok tt) has none part =
+      part_put (lines ++ line ∷ []) [] (lines ++ line ∷ []) before mid now g taken more (sym (append-nil (lines ++ line ∷ []))) grid (next_kept has) part
+  next_failed (Err cut.TooMany) many none part =
+      part_put lines (line ∷ []) (lines ++ line ∷ []) before mid now g old e refl same put (subst (λ (t : Taken). AppendsPrefix mid now t.entries.bytes.items) many.1 part)
+  next_failed (Err cut.Memory) takes none part = absurd (none refl)
 
-  pub next_put : (answer : Result (Unit {0}) LineStop) (result : Result (Unit {0}) EventsStop) → (answer ≡ Ok tt → HasTaken (lines ++ line ∷ []) put.written taken more)
-      → (answer ≡ Err cut.TooMany → IsOneTooMany old line) → (answer ≡ Err cut.TooMany → taken ≡ old) → Enters mid now taken new answer result → LeadsNext (lines ++ line ∷ []) before now g new more result
-  next_put answer (Ok tt) takes many kept enters = put_written (lines ++ line ∷ []) before mid now taken new more (next_kept (takes enters.0)) enters.1 enters.2
-  next_put answer (Err ends.WriteFailed) takes many kept enters = next_failed answer takes kept enters.0 enters.1
-  next_put answer (Err ends.TooManyLines) takes many kept enters =
-      let over = many enters.0 in
+  -- the line is one too many
+  next_many : IsOneTooMany old line → taken ≡ old → Appends mid now taken.entries.bytes.items → MeetsOne (lines ++ line ∷ []) before now g
+  next_many over kept out =
       let full = over.full in
       let counts = put.has.counts in
       let few = put.has.few in
-      let printed = ap (λ (t : Taken). put.written ++ t.entries.bytes.items) (kept enters.0) ∙ printed_by lines put.written old e g put.has same in record {
+      let printed = ap (λ (t : Taken). put.written ++ t.entries.bytes.items) kept ∙ printed_by lines put.written old e g put.has same in record {
         first = lines;
         line = line;
         rest = [];
         are = refl;
         full = omega arith;
         counts = over.counts;
-        written = appends_same before now (put.written ++ taken.entries.bytes.items) (entries g 1 [] lines) printed (appends_both before mid now put.written taken.entries.bytes.items put.out enters.1);
+        written = appends_same before now (put.written ++ taken.entries.bytes.items) (entries g 1 [] lines) printed (appends_both before mid now put.written taken.entries.bytes.items put.out out);
       }
-  next_put answer (Err ends.Memory) takes many kept enters =
+
+  pub next_put : (answer : Result (Unit {0}) LineStop) (result : Result (Unit {0}) EventsStop) → TakesNext lines line put.written old taken more answer → Enters mid now taken new answer result
+      → LeadsNext (lines ++ line ∷ []) before now g new more result
+  next_put answer (Ok tt) takes enters =
+      put_written (lines ++ line ∷ []) before mid now taken new more (next_kept (subst (TakesNext lines line put.written old taken more) enters.0 takes)) enters.1 enters.2
+  next_put answer (Err ends.WriteFailed) takes enters = next_failed answer takes enters.0 enters.1
+  next_put answer (Err ends.TooManyLines) takes enters = (let many = subst (TakesNext lines line put.written old taken more) enters.0 takes in next_many many.0 many.1 enters.1)
+  next_put answer (Err ends.Memory) takes enters =
       none_put lines (line ∷ []) (lines ++ line ∷ []) before now g old e refl same (record { written = put.written; has = put.has; out = subst (λ (o : Option (List ℕ)). Appends before o put.written) (sym enters.1) put.out })
-  next_put answer (Err ends.ReadFailed) takes many kept enters = absurd enters
-  next_put answer (Err ends.TooManyBytes) takes many kept enters = absurd enters
+  next_put answer (Err ends.ReadFailed) takes enters = absurd enters
+  next_put answer (Err ends.TooManyBytes) takes enters = absurd enters
 
 -- where a run stops among lines, it stops among these and more
 pub stops_more : (all more : List (List ℕ)) (before now : Option (List ℕ)) (g : Parts) (stop : EventsStop) → StopsAmong all before now g stop → StopsAmong (all ++ more) before now g stop

@@ -1,3 +1,4 @@
+pub mod Entering
 pub mod Pieces
 pub mod Reading
 pub mod Reached

@@ -1,5 +1,5 @@
 -- What a run has taken of an event text.
-use Rattle.std.specs.Prelude.{◌≡◌, ◌≤◌, ℕ, false, List, [], ◌∷◌, ◌++◌, length, Option, Result, Ok, Err}
+use Rattle.std.specs.Prelude.{◌≡◌, ◌≤◌, ⊤, ℕ, false, List, [], ◌∷◌, ◌++◌, length, Option, Result, Ok, Err}
 use Rattle.std.specs.Io.KnownBytes.{Appends}
 use Rattle.grid_model.specs.Parts.{Parts}
 use Rattle.event_rules.specs.Lines.{is_skipped}
@@ -8,7 +8,9 @@ use Rattle.history_rules.specs.Output.{entries}
 use Rattle.line_text.specs.Cutting.{IsAtPart, ended_from, part_from}
 use Rattle.outage_engine.specs.Engined.{Engined, IsEngineAfter}
 use Rattle.outage_ports.specs.Bytes.{AppendsPrefix}
+use Rattle.run_rules.specs.Faults.{TellsFaults}
 use Rattle.run_rules.specs.Files.{most_event_lines}
+use Rattle.event_run.specs.Entering.{StaysEngine}
 use Rattle.event_run.specs.declared.reading.EventsStop.{EventsStop}
 use Rattle.event_run.specs.declared.reading.EventsStop.TheVariants.{ReadFailed, WriteFailed, TooManyLines, TooManyBytes, Memory}
 use Rattle.event_run.specs.declared.taken.LineStop.{LineStop}
@@ -55,6 +57,17 @@ pub record IsOneTooMany (before : Taken) (line : List ℕ) : Type 0 where
   pub full : most_event_lines ≤ before.counted
   pub counts : is_skipped line ≡ false
 
+-- what comes of one more line, behind these
+abbrev pub TakesNext : List (List ℕ) → List ℕ → List ℕ → Taken → Taken → Engined → Result (Unit {0}) LineStop → Type 0
+TakesNext lines line written old new e (Ok tt) = HasTaken (lines ++ line ∷ []) written new e
+TakesNext lines line written old new e (Err cut.TooMany) = IsOneTooMany old line × (new ≡ old)
+TakesNext lines line written old new e (Err cut.Memory) = ⊤
+
+-- however a call ends that takes lines: the engine stays one, and the faults of the sink are told
+pub record GoesOn (e more : Engined) (before now : ℕ) (failed : Type 0) : Type 0 where
+  pub engine : StaysEngine e more
+  pub faults : TellsFaults before now failed
+
 -- among these lines is one too many, and the entries of those before it were written
 pub record MeetsOne (all : List (List ℕ)) (before now : Option (List ℕ)) (g : Parts) : Type 0 where
   pub first : List (List ℕ)
@@ -86,6 +99,15 @@ pub record IsEmptied (taken new : Taken) : Type 0 where
   pub number : new.number ≡ taken.number
   pub counted : new.counted ≡ taken.counted
   pub entries : new.entries.bytes.items ≡ []
+
+-- the entries that are kept are written, or a front part of them is
+abbrev pub Writes : Option (List ℕ) → Option (List ℕ) → Taken → Taken → Result (Unit {0}) EventsStop → Type 0
+Writes before now taken new (Ok tt) = Appends before now taken.entries.bytes.items × IsEmptied taken new
+Writes before now taken new (Err WriteFailed) = AppendsPrefix before now taken.entries.bytes.items
+Writes before now taken new (Err TooManyLines) = ⊥
+Writes before now taken new (Err Memory) = ⊥
+Writes before now taken new (Err ReadFailed) = ⊥
+Writes before now taken new (Err TooManyBytes) = ⊥
 
 -- what becomes of the entries that are kept, after a line was taken with this answer
 abbrev pub Enters : Option (List ℕ) → Option (List ℕ) → Taken → Taken → Result (Unit {0}) LineStop → Result (Unit {0}) EventsStop → Type 0

@@ -8,7 +8,7 @@ use Rattle.history_rules.specs.Output.{entries}
 use Rattle.history_rules.specs.Report.{refused_in}
 use Rattle.outage_engine.specs.Engined.{Engined, IsEngineAfter}
 use Rattle.outage_ports.specs.Bytes.{Files, AppendsPrefix}
-use Rattle.whole_file.specs.Whole.{FailsAt}
+use Rattle.run_rules.specs.Reading.{FailsAt}
 use Rattle.run_rules.specs.Files.{HasEvents, HasTooManyLines, HasTooManyBytes}
 use Rattle.run_rules.specs.Told.{entries_taken}
 use Rattle.event_run.specs.declared.reading.EventsStop.{EventsStop}

@@ -5,7 +5,9 @@ ghost use Rattle.outage_engine.specs.Engined.{IsEngineAfter, IsEngine};
 ghost use Rattle.run_rules.specs.Faults.{TellsFaults};
 ghost use Rattle.run_rules.specs.Files.{most_event_lines};
 ghost use Rattle.event_run.specs.Reading.{DidReadAll, Stops};
-ghost use Rattle.event_run.specs.Reached.{Reached, HasReachedSome, Leads, IsLess};
+ghost use Rattle.outage_ports.specs.Bytes.{Files};
+ghost use Rattle.event_run.specs.Pieces.{GoesOn};
+ghost use Rattle.event_run.specs.Reached.{Reached, HasReachedSome, ReadsOn, Leads, IsLess};
 
 use crate::run::Run;
 use history_rules::{lines_of_limit, run_of_parts};
@@ -42,6 +44,7 @@ const MOST_EVENTS: usize = 1_073_741_824;
 
 // Reads one more piece, of which so many bytes may be taken, and writes the entries of the lines that
 // end in it.
+#[tactic(none)]
 fn read_more<S: Shelf, K: Sink>(
     alloc: Global,
     shelf: &mut S,
@@ -54,15 +57,13 @@ fn read_more<S: Shelf, K: Sink>(
     requires started { S.started shelf.old ≡ true }
     requires piece { 0 < length piece.old }
     requires reached { HasReachedSome (S.files shelf.old) (S.left shelf.old) (K.written out.old) run.old engine.old room }
-    ensures files { S.files shelf.new ≡ S.files shelf.old }
     ensures started { OnOk result (S.started shelf.new ≡ true) }
-    ensures grid { engine.new.grid ≡ engine.old.grid }
-    ensures engine { IsEngine engine.new }
     ensures less { IfOk result (IsLess room) }
-    ensures leads { (name : List ℕ) (before : Option (List ℕ)) → Reached (S.files shelf.old) name (S.left shelf.old) before (K.written out.old) engine.old.grid run.old engine.old room
-        → Leads (S.files shelf.old) name (S.left shelf.new) before (K.written out.new) engine.old.grid run.new engine.new result }
-    ensures shelf { TellsFaults (S.faults shelf.old) (S.faults shelf.new) (IsErrOf result EventsStop.ReadFailed) }
-    ensures out { TellsFaults (K.faults out.old) (K.faults out.new) (IsErrOf result EventsStop.WriteFailed) }
+    ensures leads { (files : Option Files) (name : List ℕ) (before : Option (List ℕ)) (p : Parts)
+        → Reached files (S.files shelf.old) name (S.left shelf.old) before (K.written out.old) p run.old engine.old room
+        → Leads files (S.files shelf.new) name (S.left shelf.new) before (K.written out.new) p run.new engine.new result }
+    ensures reads { ReadsOn (S.files shelf.old) (S.files shelf.new) (S.faults shelf.old) (S.faults shelf.new) (IsErrOf result EventsStop.ReadFailed) }
+    ensures goes { GoesOn engine.old engine.new (K.faults out.old) (K.faults out.new) (IsErrOf result EventsStop.WriteFailed) }
 {
     lines_from_parts();
     lines_of_limit();
@@ -85,6 +86,7 @@ fn read_more<S: Shelf, K: Sink>(
 /// How many event lines of a file were refused: reads it piece by piece, applies or refuses each
 /// event, and writes the entries of the lines that end in a piece before the next is read. At once,
 /// the entries of each line are written and handed on before the next line is taken.
+#[tactic(none)]
 pub fn run_events<S: Shelf, K: Sink>(
     alloc: Global,
     shelf: &mut S,
@@ -106,7 +108,6 @@ pub fn run_events<S: Shelf, K: Sink>(
     ensures shelf { TellsFaults (S.faults shelf.old) (S.faults shelf.new) (IsErrOf result EventsStop.ReadFailed) }
     ensures out { TellsFaults (K.faults out.old) (K.faults out.new) (IsErrOf result EventsStop.WriteFailed) }
 {
-    lines_from_parts();
     if shelf.start(name).is_err() {
         return Err(EventsStop::ReadFailed);
     }

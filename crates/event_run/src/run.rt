@@ -1,9 +1,9 @@
 //! A run over the bytes of an event text.
-ghost use Rattle.std.specs.Prelude.{◌≡◌, ◌≤◌, ◌+◌, ◌++◌, [], ℕ, List, Option, length, IsErrOf};
+ghost use Rattle.std.specs.Prelude.{◌≤◌, ◌+◌, ◌++◌, [], ℕ, List, Option, length, IsErrOf};
 ghost use Rattle.event_rules.specs.Lines.{lines};
-ghost use Rattle.outage_engine.specs.Engined.{Engined, IsEngineAfter, IsEngine};
-ghost use Rattle.run_rules.specs.Faults.{TellsFaults};
-ghost use Rattle.event_run.specs.Pieces.{HasRead, HasReadSome, LeadsAmong, LeadsTo};
+ghost use Rattle.outage_engine.specs.Engined.{Engined, IsEngineAfter};
+ghost use Rattle.grid_model.specs.Parts.{Parts};
+ghost use Rattle.event_run.specs.Pieces.{GoesOn, HasRead, HasReadSome, LeadsAmong, LeadsTo};
 
 use crate::reading::EventsStop;
 use crate::taken::Taken;
@@ -38,6 +38,7 @@ impl Run {
 
     /// Takes the next bytes, of at most 1,073,741,824 in all, and writes the entries of the lines
     /// that end in them. It stops before a line that is one more than may count.
+    #[tactic(none)]
     pub(crate) fn take_piece<K: Sink>(
         &mut self,
         alloc: Global,
@@ -47,11 +48,9 @@ impl Run {
     ) -> Result<(), EventsStop>
         requires read { HasReadSome (K.written out.old) self.old engine.old }
         requires room { self.old.taken.number + length piece.now ≤ 1_073_741_824 }
-        ensures leads { (bytes : List ℕ) (before : Option (List ℕ)) → HasRead bytes before (K.written out.old) engine.old.grid self.old engine.old
-            → LeadsTo (bytes ++ piece.now) before (K.written out.new) engine.old.grid self.new engine.new result }
-        ensures grid { engine.new.grid ≡ engine.old.grid }
-        ensures engine { IsEngine engine.new }
-        ensures faults { TellsFaults (K.faults out.old) (K.faults out.new) (IsErrOf result EventsStop.WriteFailed) }
+        ensures leads { (bytes : List ℕ) (before : Option (List ℕ)) (p : Parts) → HasRead bytes before (K.written out.old) p self.old engine.old
+            → LeadsTo (bytes ++ piece.now) before (K.written out.new) p self.new engine.new result }
+        ensures goes { GoesOn engine.old engine.new (K.faults out.old) (K.faults out.new) (IsErrOf result EventsStop.WriteFailed) }
     {
         self.block.clear();
         if self.block.take_piece(&mut self.cutter, piece).is_err() {
@@ -62,6 +61,7 @@ impl Run {
     }
 
     /// Takes the end of the text, with which a last line may end, and writes its entries.
+    #[tactic(none)]
     pub(crate) fn end<K: Sink>(
         &mut self,
         alloc: Global,
@@ -70,11 +70,9 @@ impl Run {
     ) -> Result<(), EventsStop>
         requires read { HasReadSome (K.written out.old) self.old engine.old }
         requires room { self.old.taken.number ≤ 1_073_741_824 }
-        ensures leads { (bytes : List ℕ) (before : Option (List ℕ)) → HasRead bytes before (K.written out.old) engine.old.grid self.old engine.old
-            → LeadsAmong (lines bytes) before (K.written out.new) engine.old.grid self.new.taken engine.new result }
-        ensures grid { engine.new.grid ≡ engine.old.grid }
-        ensures engine { IsEngine engine.new }
-        ensures faults { TellsFaults (K.faults out.old) (K.faults out.new) (IsErrOf result EventsStop.WriteFailed) }
+        ensures leads { (bytes : List ℕ) (before : Option (List ℕ)) (p : Parts) → HasRead bytes before (K.written out.old) p self.old engine.old
+            → LeadsAmong (lines bytes) before (K.written out.new) p self.new.taken engine.new result }
+        ensures goes { GoesOn engine.old engine.new (K.faults out.old) (K.faults out.new) (IsErrOf result EventsStop.WriteFailed) }
     {
         lines_from_parts();
         self.block.clear();

@@ -1,21 +1,21 @@
 //! The lines that a run has taken.
-ghost use Rattle.std.specs.Prelude.{◌≡◌, ◌≢◌, ◌≤◌, ◌<◌, ◌+◌, ◌^◌, ◌++◌, ◌∷◌, [], ℕ, List, Option, length, map, Ok, Err, OnOk, IsErrOf};
+ghost use Rattle.std.specs.Prelude.{◌≡◌, ◌≢◌, ◌≤◌, ◌<◌, ◌+◌, ◌^◌, ◌++◌, ◌∷◌, [], ℕ, List, Option, length, Ok, Err, OnOk, IsErrOf};
+ghost use Rattle.grid_model.specs.Parts.{Parts};
 ghost use Rattle.grid_model.specs.declared.history.Event.{Event};
 ghost use Rattle.line_text.specs.BlockReading.{AreLeft};
 ghost use Rattle.event_reader.specs.Reading.{IsReading};
 ghost use Rattle.event_reader.specs.declared.refusal.ReadRefusal.{ReadRefusal};
-ghost use Rattle.history_rules.specs.Posed.{IsOfGrid, refusal_of, joined};
-ghost use Rattle.history_rules.specs.Run.{outcome_by};
-ghost use Rattle.history_rules.specs.Output.{entry, refused_row};
+ghost use Rattle.history_rules.specs.Posed.{IsOfGrid};
+ghost use Rattle.history_rules.specs.Output.{refused_row};
 ghost use Rattle.history_rules.specs.Report.{refused_in};
-ghost use Rattle.diagnosis.specs.Judgement.{differences};
-ghost use Rattle.outage_engine.specs.declared.Applied.{Applied};
-ghost use Rattle.outage_engine.specs.Engined.{Engined, IsEngineAfter, IsEngine, answer_by};
-ghost use Rattle.report_text.specs.Entered.{rule_of};
-ghost use Rattle.run_rules.specs.Faults.{TellsFaults};
-ghost use Rattle.run_rules.specs.Files.{most_event_lines};
 ghost use Rattle.history_rules.specs.StampTexts.{last_second};
-ghost use Rattle.event_run.specs.Pieces.{HasTaken, HasTakenSome, HasWritten, HasWrittenSome, HasPut, IsOneTooMany, Enters, LeadsNext, LeadsAmong};
+ghost use Rattle.outage_engine.specs.declared.Applied.{Applied};
+ghost use Rattle.outage_engine.specs.Engined.{IsEngine};
+ghost use Rattle.line_entries.specs.Entered.{IsLastChange, rule_of};
+ghost use Rattle.line_entries.specs.Putting.{DidPut};
+ghost use Rattle.run_rules.specs.Faults.{TellsFaults};
+ghost use Rattle.event_run.specs.Entering.{StaysEngine, IsAnswered, PutsAnswer, Counts, TakesLine, IsEventTaken};
+ghost use Rattle.event_run.specs.Pieces.{HasTaken, HasTakenSome, HasWritten, HasWrittenSome, HasPut, GoesOn, TakesNext, Writes, Enters, LeadsNext, LeadsAmong};
 
 use crate::kept::Kept;
 use crate::reading::EventsStop;
@@ -23,10 +23,10 @@ use crate::unread::rule_in;
 use event_reader::{ReadRefusal, next_event};
 use grid_model::{Event, Refusal};
 use history_rules::{refused_are_the_rest, run_of_parts};
+use line_entries::{LineRule, PutFault, applied_is_last_change, put_changes, put_refused};
 use line_text::BlockReader;
 use outage_engine::{Applied, Engine};
-use outage_ports::{Sink, put_all};
-use report_text::{LineRule, PutFault, applied_is_last_change, put_changes, put_refused};
+use outage_ports::{Failed, Sink, put_all};
 use std::alloc::{AllocError, Global};
 use std::marker::Brand;
 use std::sync::ledger::{Blank, Ledger};
@@ -36,7 +36,7 @@ use subtree_costs::Steps;
 pub(crate) const MOST_EVENT_LINES: u32 = 2_000_000;
 
 /// Why a run stops at a line.
-#[derive(Clone, Copy, Debug, PartialEq, Eq)]
+#[derive(Clone, Copy)]
 pub(crate) enum LineStop {
     /// It is one more than may count.
     TooMany,
@@ -88,14 +88,39 @@ fn apply_event<L: Ledger>(
     requires range { event.time.0 ≤ last_second }
     requires room { engine.old.field.applied < 2 ^ 32 }
     requires spare { length engine.old.grid.meters ≤ engine.old.ledger.spare }
-    ensures grid { engine.new.grid ≡ engine.old.grid }
-    ensures answer { (h : List Event) → IsEngineAfter h engine.old → result ≡ answer_by engine.old.grid h event (refusal_of engine.old.grid h event) }
-    ensures after { (h : List Event) → IsEngineAfter h engine.old → IsEngineAfter (joined engine.old.grid h event) engine.new }
-    ensures engine { IsEngine engine.new }
-    ensures changed { (applied : Applied) → result ≡ Ok applied → map (λ d. d.0) engine.new.judged.changed ≡ differences engine.old.judged.opened engine.new.judged.opened }
+    ensures { IsAnswered engine.old engine.new event result }
 {
+    applied_is_last_change();
     let mut steps = Steps::<L>::new(blank);
     engine.apply(event, &mut steps)
+}
+
+// Keeps the entry of an event that an engine answered so.
+#[tactic(none)]
+fn put_answer(
+    entries: &mut Kept,
+    engine: &Engine,
+    line: u32,
+    answer: Result<Applied, Refusal>,
+) -> Result<(), PutFault>
+    requires last { (applied : Applied) → answer ≡ Ok applied → (h : List Event) × (event : Event) × IsLastChange h event applied engine.now }
+    ensures { OnOk result (PutsAnswer line engine.now entries.old.bytes.items entries.new.bytes.items answer) }
+{
+    match answer {
+        Ok(applied) => put_changes(entries, engine, line, applied),
+        Err(rule) => put_refused(entries, line, LineRule::Unapplied(rule)),
+    }
+}
+
+// Writes bytes, and at once hands them on.
+fn put_bytes<K: Sink>(out: &mut K, bytes: &[u8], at_once: bool) -> Result<(), Failed>
+    ensures { DidPut (K.written out.old) (K.written out.new) (K.faults out.old) (K.faults out.new) result bytes.now }
+{
+    put_all(out, bytes)?;
+    if at_once && !bytes.is_empty() {
+        return out.flush();
+    }
+    Ok(())
 }
 
 impl Taken {
@@ -125,13 +150,7 @@ impl Taken {
     // Numbers and counts the next line, which isn't skipped.
     fn count(&mut self) -> Result<(), LineStop>
         requires room { self.old.number < 4_294_967_295 }
-        ensures number { OnOk result (self.new.number ≡ self.old.number + 1) }
-        ensures counted { OnOk result (self.new.counted ≡ self.old.counted + 1) }
-        ensures few { OnOk result (self.new.counted ≤ most_event_lines) }
-        ensures same { OnOk result (self.new.entries ≡ self.old.entries) }
-        ensures many { IsErrOf result LineStop.TooMany → most_event_lines ≤ self.old.counted }
-        ensures kept { IsErrOf result LineStop.TooMany → self.new ≡ self.old }
-        ensures no_memory { IsErrOf result LineStop.Memory → ⊥ }
+        ensures { Counts self.old self.new result }
     {
         if self.counted >= MOST_EVENT_LINES {
             return Err(LineStop::TooMany);
@@ -142,14 +161,10 @@ impl Taken {
     }
 
     // Takes a line that is refused.
+    #[tactic(none)]
     fn take_refused(&mut self, rule: LineRule) -> Result<(), LineStop>
         requires room { self.old.number < 4_294_967_295 }
-        ensures number { OnOk result (self.new.number ≡ self.old.number + 1) }
-        ensures counted { OnOk result (self.new.counted ≡ self.old.counted + 1) }
-        ensures few { OnOk result (self.new.counted ≤ most_event_lines) }
-        ensures printed { OnOk result (self.new.entries.bytes.items ≡ self.old.entries.bytes.items ++ refused_row (self.old.number + 1) (rule_of rule)) }
-        ensures many { IsErrOf result LineStop.TooMany → most_event_lines ≤ self.old.counted }
-        ensures kept { IsErrOf result LineStop.TooMany → self.new ≡ self.old }
+        ensures { TakesLine self.old self.new (self.new.entries.bytes.items ≡ self.old.entries.bytes.items ++ refused_row (self.old.number + 1) (rule_of rule)) result }
     {
         self.count()?;
         put_refused(&mut self.entries, self.number, rule)?;
@@ -157,40 +172,25 @@ impl Taken {
     }
 
     // Takes the event of a line.
+    #[tactic(none)]
     fn take_event(&mut self, engine: &mut Engine, event: Event) -> Result<(), LineStop>
         requires engine { IsEngine engine.old }
         requires of_grid { IsOfGrid engine.old.grid event.what }
         requires range { event.time.0 ≤ last_second }
         requires applied { engine.old.field.applied < 2_000_001 }
         requires room { self.old.number < 4_294_967_295 }
-        ensures number { OnOk result (self.new.number ≡ self.old.number + 1) }
-        ensures counted { OnOk result (self.new.counted ≡ self.old.counted + 1) }
-        ensures few { OnOk result (self.new.counted ≤ most_event_lines) }
-        ensures printed { OnOk result ((h : List Event) → IsEngineAfter h engine.old →
-            self.new.entries.bytes.items ≡ self.old.entries.bytes.items ++ entry engine.old.grid (self.old.number + 1) h (outcome_by event (refusal_of engine.old.grid h event))) }
-        ensures after { OnOk result ((h : List Event) → IsEngineAfter h engine.old → IsEngineAfter (joined engine.old.grid h event) engine.new) }
-        ensures grid { engine.new.grid ≡ engine.old.grid }
-        ensures engine { IsEngine engine.new }
-        ensures many { IsErrOf result LineStop.TooMany → most_event_lines ≤ self.old.counted }
-        ensures kept { IsErrOf result LineStop.TooMany → self.new ≡ self.old }
+        ensures takes { TakesLine self.old self.new (IsEventTaken engine.old engine.new event self.old self.new) result }
+        ensures stays { StaysEngine engine.old engine.new }
     {
-        applied_is_last_change();
         self.count()?;
-        let number = self.number;
         engine.reserve()?;
-        match apply_event::<Brand>(engine, event, Blank::new(1)) {
-            Ok(applied) => {
-                put_changes(&mut self.entries, engine, number, applied)?;
-                Ok(())
-            }
-            Err(rule) => {
-                put_refused(&mut self.entries, number, LineRule::Unapplied(rule))?;
-                Ok(())
-            }
-        }
+        let answer = apply_event::<Brand>(engine, event, Blank::new(1));
+        put_answer(&mut self.entries, engine, self.number, answer)?;
+        Ok(())
     }
 
     // Takes what was read of a line.
+    #[tactic(none)]
     fn take_read(
         &mut self,
         engine: &mut Engine,
@@ -199,13 +199,9 @@ impl Taken {
         requires taken { HasTakenSome self.old engine.old }
         requires read { (line : List ℕ) × IsReading engine.old.grid line read }
         requires room { self.old.number < 4_294_967_295 }
-        ensures taken { OnOk result ((lines : List (List ℕ)) (line written : List ℕ) → IsReading engine.old.grid line read → HasTaken lines written self.old engine.old → HasTaken (lines ++ line ∷ []) written self.new engine.new) }
-        ensures number { OnOk result (self.new.number ≤ self.old.number + 1) }
-        ensures many { IsErrOf result LineStop.TooMany → (line : List ℕ) → IsReading engine.old.grid line read → IsOneTooMany self.old line }
-        ensures kept { IsErrOf result LineStop.TooMany → self.new ≡ self.old }
+        ensures takes { (lines : List (List ℕ)) (line written : List ℕ) → IsReading engine.old.grid line read → HasTaken lines written self.old engine.old → TakesNext lines line written self.old self.new engine.new result }
         ensures memory { OnOk result (read ≢ Err ReadRefusal.Memory) }
-        ensures grid { engine.new.grid ≡ engine.old.grid }
-        ensures engine { IsEngine engine.new }
+        ensures stays { StaysEngine engine.old engine.new }
     {
         run_of_parts();
         match read {
@@ -213,22 +209,28 @@ impl Taken {
                 self.number += 1;
                 Ok(())
             }
-            Ok(Some(event)) => {
-                self.take_event(engine, event)?;
-                Ok(())
-            }
+            Ok(Some(event)) => self.take_event(engine, event),
             Err(refusal) => match rule_in(refusal) {
-                Some(rule) => {
-                    self.take_refused(LineRule::Unread(rule))?;
-                    Ok(())
-                }
+                Some(rule) => self.take_refused(LineRule::Unread(rule)),
                 None => Err(LineStop::Memory),
             },
         }
     }
 
-    // Writes the entries that are kept, but for those of a line for which memory ran out. At once,
-    // they are handed on too.
+    // Writes the entries that are kept. At once, they are handed on too.
+    #[tactic(none)]
+    fn write_entries<K: Sink>(&mut self, out: &mut K, at_once: bool) -> Result<(), EventsStop>
+        ensures writes { Writes (K.written out.old) (K.written out.new) self.old self.new result }
+        ensures faults { TellsFaults (K.faults out.old) (K.faults out.new) (IsErrOf result EventsStop.WriteFailed) }
+    {
+        if put_bytes(out, &self.entries.bytes, at_once).is_err() {
+            return Err(EventsStop::WriteFailed);
+        }
+        self.entries.clear();
+        Ok(())
+    }
+
+    // Writes the entries that are kept, but for those of a line for which memory ran out.
     fn put_entries<K: Sink>(
         &mut self,
         out: &mut K,
@@ -238,24 +240,19 @@ impl Taken {
         ensures entered { Enters (K.written out.old) (K.written out.new) self.old self.new answer result }
         ensures faults { TellsFaults (K.faults out.old) (K.faults out.new) (IsErrOf result EventsStop.WriteFailed) }
     {
-        if answer == Err(LineStop::Memory) {
-            return Err(EventsStop::Memory);
-        }
-        if put_all(out, &self.entries.bytes).is_err() {
-            return Err(EventsStop::WriteFailed);
-        }
-        if at_once && !self.entries.bytes.is_empty() && out.flush().is_err() {
-            return Err(EventsStop::WriteFailed);
-        }
-        self.entries.clear();
         match answer {
-            Ok(()) => Ok(()),
-            Err(_) => Err(EventsStop::TooManyLines),
+            Ok(()) => self.write_entries(out, at_once),
+            Err(LineStop::TooMany) => {
+                self.write_entries(out, at_once)?;
+                Err(EventsStop::TooManyLines)
+            }
+            Err(LineStop::Memory) => Err(EventsStop::Memory),
         }
     }
 
     // Takes what was read of a line, and at once writes its entries. Where it stops at the line, it
     // writes those that are kept.
+    #[tactic(none)]
     fn take_next<K: Sink>(
         &mut self,
         engine: &mut Engine,
@@ -269,9 +266,7 @@ impl Taken {
         ensures leads { (lines : List (List ℕ)) (line : List ℕ) (before : Option (List ℕ)) → IsReading engine.old.grid line read → HasPut lines before (K.written out.old) self.old engine.old
             → LeadsNext (lines ++ line ∷ []) before (K.written out.new) engine.old.grid self.new engine.new result }
         ensures memory { OnOk result (read ≢ Err ReadRefusal.Memory) }
-        ensures grid { engine.new.grid ≡ engine.old.grid }
-        ensures engine { IsEngine engine.new }
-        ensures faults { TellsFaults (K.faults out.old) (K.faults out.new) (IsErrOf result EventsStop.WriteFailed) }
+        ensures goes { GoesOn engine.old engine.new (K.faults out.old) (K.faults out.new) (IsErrOf result EventsStop.WriteFailed) }
     {
         let answer = self.take_read(engine, read);
         if at_once || answer.is_err() {
@@ -292,11 +287,9 @@ impl Taken {
     ) -> Result<(), EventsStop>
         requires taken { HasWrittenSome (K.written out.old) self.old engine.old }
         requires left { (all : List (List ℕ)) × AreLeft lines.old all × (self.old.number + length all ≤ 4_294_967_294) }
-        ensures leads { (sofar all : List (List ℕ)) (before : Option (List ℕ)) → AreLeft lines.old all → HasWritten sofar before (K.written out.old) engine.old.grid self.old engine.old
-            → LeadsAmong (sofar ++ all) before (K.written out.new) engine.old.grid self.new engine.new result }
-        ensures grid { engine.new.grid ≡ engine.old.grid }
-        ensures engine { IsEngine engine.new }
-        ensures faults { TellsFaults (K.faults out.old) (K.faults out.new) (IsErrOf result EventsStop.WriteFailed) }
+        ensures leads { (sofar all : List (List ℕ)) (before : Option (List ℕ)) (p : Parts) → AreLeft lines.old all → HasWritten sofar before (K.written out.old) p self.old engine.old
+            → LeadsAmong (sofar ++ all) before (K.written out.new) p self.new engine.new result }
+        ensures goes { GoesOn engine.old engine.new (K.faults out.old) (K.faults out.new) (IsErrOf result EventsStop.WriteFailed) }
     {
         'lines: while let Some(read) = next_event(lines, engine.grid()) {
             self.take_next(engine, read, out, at_once)?;

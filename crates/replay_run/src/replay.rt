@@ -11,10 +11,10 @@ ghost use Rattle.run_rules.specs.Files.{most_event_lines};
 ghost use Rattle.run_rules.specs.Told.{report_after};
 ghost use Rattle.run_rules.specs.Run.{run_of, IsSilent};
 ghost use Rattle.run_rules.specs.Ends.{IsEnd};
-ghost use Rattle.report_text.specs.declared.put.PutFault.TheVariants.{Write};
+ghost use Rattle.line_entries.specs.declared.fault.PutFault.TheVariants.{Write};
 
 use command_words::{Places, Wish};
-use engine_run::{Ran, run_engine};
+use engine_run::{Ran, run_engine, status_after};
 use history_rules::lines_of_limit;
 use outage_ports::{Shelf, Sink};
 use replay_laws::{bounds_are_shown, run_is_told};
@@ -80,7 +80,6 @@ pub fn run_replay<S: Shelf, K: Sink>(
 ) -> Status
     requires net { S.allows places.net.now }
     requires events { S.allows places.events.now }
-    ensures no_usage { result ≡ Status.Usage → ⊥ }
     ensures shelf { TellsFaults (S.faults shelf.old) (S.faults shelf.new)
         (result ≡ Status.ReadFault) }
     ensures out { TellsFaults (K.faults out.old) (K.faults out.new) (result ≡ Status.WriteFault) }
@@ -97,9 +96,5 @@ pub fn run_replay<S: Shelf, K: Sink>(
         Ok(ran) => ran,
         Err(status) => return status,
     };
-    match end_output(alloc, out, &ran, wish) {
-        Ok(()) => Status::Done,
-        Err(PutFault::Write) => Status::WriteFault,
-        Err(PutFault::Memory) => Status::Memory,
-    }
+    status_after(end_output(alloc, out, &ran, wish))
 }

@@ -4,19 +4,17 @@ use Rattle.std.specs.Prelude.{codes}
 use Rattle.grid_model.specs.Parts.{Parts}
 use Rattle.grid_model.specs.declared.history.Line.{Line}
 use Rattle.grid_model.specs.declared.history.Period.{Period}
+use Rattle.event_rules.specs.Rows.{row}
 use Rattle.event_rules.specs.Fractions.{Ratio, ratio_text}
 use Rattle.history_rules.specs.Indices.{saifi, saidi, caidi}
 use Rattle.history_rules.specs.Report.{index_row, index_rows}
 use Rattle.report_text.specs.Rows.{value_text}
 
-three_words : (t0 t1 t2 t3 t4 a b c : List ℕ) → t1 ≡ t0 ++ a → t2 ≡ t1 ++ 44 ∷ b → t3 ≡ t2 ++ 44 ∷ c → t4 ≡ t3 ++ 10 ∷ [] → t4 ≡ t0 ++ ((a ++ 44 ∷ (b ++ 44 ∷ c)) ++ 10 ∷ [])
-three_words t0 t1 t2 t3 t4 a b c e1 e2 e3 e4 = rw (e4, e3, e2, e1) (simp append_assoc)
-
-pub index-pieces : (t0 t1 t2 t3 t4 name : List ℕ) (value : Option Ratio) → t1 ≡ t0 ++ codes "index" → t2 ≡ t1 ++ 44 ∷ name → t3 ≡ t2 ++ 44 ∷ value_text value
-    → t4 ≡ t3 ++ 10 ∷ [] → t4 ≡ t0 ++ index_row name value
+-- a name and a value are the words of the row
+pub index_of : (name text : List ℕ) (value : Option Ratio) → text ≡ value_text value → row (codes "index" ∷ name ∷ text ∷ []) ≡ index_row name value
 unfolding ratio_text
-index-pieces t0 t1 t2 t3 t4 name None e1 e2 e3 e4 = three_words t0 t1 t2 t3 t4 (codes "index") name (value_text None) e1 e2 e3 e4
-index-pieces t0 t1 t2 t3 t4 name (Some r) e1 e2 e3 e4 = three_words t0 t1 t2 t3 t4 (codes "index") name (value_text (Some r)) e1 e2 e3 e4
+index_of name text None is = ap (λ t. row (codes "index" ∷ name ∷ t ∷ [])) is
+index_of name text (Some r) is = ap (λ t. row (codes "index" ∷ name ∷ t ∷ [])) is
 
 three : (t x y z : List ℕ) → ((t ++ x) ++ y) ++ z ≡ t ++ ((x ++ y) ++ z)
 three t x y z = simp append_assoc

@@ -1,6 +1,4 @@
 pub mod Pieces
-pub mod Puts
-pub mod ChangeRows
 pub mod Ranges
 pub mod Times
 pub mod OfNetwork
@@ -8,3 +6,4 @@ pub mod Told
 pub mod CrewRows
 pub mod IndexRows
 pub mod CountedLines
+pub mod Made

@@ -1,9 +1,10 @@
 -- Lists made of a range of numbers, and what holds of all their elements.
-use Rattle.std.proofs.Common.{◌≡◌, ℕ, zero, suc, ◌+◌, ◌<◌, ◌≤◌, Bool, true, false, cond, refl, ap, ◌∙◌, arith, add-one, List, [], ◌∷◌, ◌++◌, reverse, Option, Some, None, append-nil}
+use Rattle.std.proofs.Common.{◌≡◌, ℕ, zero, suc, ◌+◌, ◌<◌, ◌≤◌, Bool, true, false, cond, refl, sym, ap, ◌∙◌, arith, add-one, List, [], ◌∷◌, ◌++◌, reverse, Option, Some, None, append-nil, append_assoc, length, get_or, take}
 use Rattle.std.specs.Prelude.{IfSome}
 use Rattle.std.specs.List.{All, find, filter_map, flat_map, cons_option, range_with_len}
 use Rattle.std.proofs.lemmas.Grind.{flat_map-append}
 use Rattle.std.proofs.lemmas.List.Elements.{All-nil, All-cons, All-head, All-tail, All-append}
+use Rattle.line_entries.proofs.ChangeRows.{rows_more}
 use mathlib.Core.List.{reverse_aux}
 
 range_more : (a n : ℕ) → range_with_len a (suc n) ≡ range_with_len a n ++ (a + n) ∷ []
@@ -54,3 +55,12 @@ onto P (x ∷ xs) ys all more = onto P xs (x ∷ ys) (All-tail P x xs all) (All-
 
 pub All-reverse : {X : Type 0} (P : X → Type 0) (xs : List X) → All P xs → All P (reverse xs)
 All-reverse P xs all = onto P xs [] all (All-nil P)
+
+-- the rows of one element more
+pub rows_added : {X : Type 0} (f : X → List ℕ) (xs : List X) (n : ℕ) (x d : X) (old mid new : List ℕ) → n < length xs → x ≡ get_or xs n d → mid ≡ old ++ flat_map f (take n xs) → new ≡ mid ++ f x
+    → new ≡ old ++ flat_map f (take (n + 1) xs)
+rows_added f xs n x d old mid new l is before adds =
+    adds
+    ∙ ap (λ t. t ++ f x) before
+    ∙ append_assoc old (flat_map f (take n xs)) (f x)
+    ∙ ap (λ t. old ++ t) (sym (rows_more f xs n x d l is))

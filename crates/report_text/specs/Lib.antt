@@ -1,3 +1,2 @@
+pub use Rattle.line_entries.specs.Entered
 pub mod Rows
-pub mod Entered
-pub mod Putting

@@ -46,6 +46,11 @@ abbrev pub contradicted : Parts → ℕ → Bool → Pull → List ℕ
 contradicted g m is_dark pull =
     if is_dark then unexplained_by g m (codes "live") pull.live else unexplained_by g m (codes "dark") pull.dark
 
+-- a text, or another where there is none
+abbrev pub text_or : Option (List ℕ) → List ℕ → List ℕ
+text_or None other = other
+text_or (Some text) other = text
+
 -- the text of an index
 abbrev pub value_text : Option Ratio → List ℕ
 value_text None = codes "none"

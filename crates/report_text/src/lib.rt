@@ -1,11 +1,11 @@
-//! What a replay writes: the entries of its lines, the report behind them, and the bounds part.
+//! What a replay writes behind the entries of its lines: the report, its summary, and the bounds part.
 #![tactic(auto)]
 
-mod entries;
 mod put;
 mod report;
 mod rows;
 mod sections;
+mod words;
 
-pub use entries::{LineRule, applied_is_last_change, put_changes, put_refused};
-pub use put::{PutFault, put_bounds_part, put_report, put_summary};
+pub use line_entries::{LineRule, PutFault, applied_is_last_change, put_changes, put_refused};
+pub use put::{put_bounds_part, put_report, put_summary};

@@ -1,41 +1,36 @@
 //! Writing a report.
-ghost use Rattle.std.specs.Prelude.{◌≡◌, ◌≤◌, ◌<◌, List, OnOk, OnErr, IfOk, IfErr, IsErrOf};
+ghost use Rattle.std.specs.Prelude.{◌≡◌, ◌≤◌, ◌<◌, ℕ, List, OnOk, IfOk, IsErrOf};
 ghost use Rattle.std.specs.Io.KnownBytes.{Appends};
 ghost use Rattle.grid_model.specs.declared.history.Event.{Event};
 ghost use Rattle.outage_ports.specs.Bytes.{AppendsPrefix};
-ghost use Rattle.outage_ports.specs.Causes.{HasCause, Rose};
+ghost use Rattle.outage_ports.specs.Causes.{Rose};
 ghost use Rattle.bound_table.specs.Printed.{bounds_text};
 ghost use Rattle.bound_table.specs.Tight.{tight_bounds};
 ghost use Rattle.history_rules.specs.Posed.{problem_after};
 ghost use Rattle.history_rules.specs.Report.{report_text, summary_text};
 ghost use Rattle.outage_engine.specs.Engined.{IsEngineAfter};
+ghost use Rattle.line_entries.specs.Putting.{PutsText};
 ghost use Rattle.report_text.specs.Rows.{most_applied};
-ghost use Rattle.report_text.specs.declared.put.PutFault.TheVariants.{Write};
+ghost use Rattle.line_entries.specs.declared.fault.PutFault.TheVariants.{Write};
 
 use crate::report::{report_of, summary_of};
 use bound_table::put_bounds;
 use grid_model::Period;
+use line_entries::PutFault;
 use outage_engine::Engine;
 use outage_ports::{Sink, put_all};
 use std::alloc::{AllocError, Global};
 
-/// Why a text was not written.
-#[derive(Clone, Copy, Debug, PartialEq, Eq)]
-pub enum PutFault {
-    /// The sink failed.
-    Write,
-    /// There was no memory.
-    Memory,
-}
-
-// Writes a text. Where the sink fails, it has written a prefix of it.
-fn put_text<K: Sink>(out: &mut K, text: &[u8]) -> Result<(), PutFault>
-    ensures whole { OnOk result (Appends (K.written out.old) (K.written out.new) text.now) }
-    ensures part { OnErr result (AppendsPrefix (K.written out.old) (K.written out.new) text.now) }
-    ensures fault { IfErr result (λ fault. fault ≡ Write) }
-    ensures cause { HasCause (K.faults out.old) (K.faults out.new) result }
+// Writes a text that was made, and nothing where there was no memory to make it.
+fn put_made<K: Sink>(out: &mut K, made: Result<Vec<u8>, AllocError>) -> Result<(), PutFault>
+    ensures { (due : List ℕ) → IfOk made (λ text. text.items ≡ due)
+        → PutsText (K.written out.old) (K.written out.new) (K.faults out.old) (K.faults out.new)
+        result due }
 {
-    match put_all(out, text) {
+    let Ok(text) = made else {
+        return Err(PutFault::Memory);
+    };
+    match put_all(out, &text) {
         Ok(()) => Ok(()),
         Err(_) => Err(PutFault::Write),
     }
@@ -64,10 +59,7 @@ pub fn put_report<K: Sink>(
     ensures failed { IsErrOf result Write → Rose (K.faults out.old) (K.faults out.new) }
     ensures only_failed { K.faults out.old < K.faults out.new → IsErrOf result Write }
 {
-    match report_of(alloc, engine, refused, period) {
-        Ok(text) => put_text(out, &text),
-        Err(_) => Err(PutFault::Memory),
-    }
+    put_made(out, report_of(alloc, engine, refused, period))
 }
 
 /// Writes the report without what it says of single devices and meters, with the indices over all
@@ -89,10 +81,7 @@ pub fn put_summary<K: Sink>(
     ensures failed { IsErrOf result Write → Rose (K.faults out.old) (K.faults out.new) }
     ensures only_failed { K.faults out.old < K.faults out.new → IsErrOf result Write }
 {
-    match summary_of(alloc, engine, refused) {
-        Ok(text) => put_text(out, &text),
-        Err(_) => Err(PutFault::Memory),
-    }
+    put_made(out, summary_of(alloc, engine, refused))
 }
 
 // The bounds part of an engine as one text. An error says that memory ran out.
@@ -118,8 +107,5 @@ pub fn put_bounds_part<K: Sink>(alloc: Global, out: &mut K, engine: &Engine) -> 
     ensures failed { IsErrOf result Write → Rose (K.faults out.old) (K.faults out.new) }
     ensures only_failed { K.faults out.old < K.faults out.new → IsErrOf result Write }
 {
-    match bounds_part_of(alloc, engine) {
-        Ok(text) => put_text(out, &text),
-        Err(_) => Err(PutFault::Memory),
-    }
+    put_made(out, bounds_part_of(alloc, engine))
 }

@@ -1,23 +1,17 @@
 //! The rows of a report.
-ghost use Rattle.std.specs.Prelude.{◌≡◌, ◌<◌, ◌++◌, ◌∷◌, [], length, OnOk, IfSome, codes, decimal};
+ghost use Rattle.std.specs.Prelude.{◌≡◌, ◌<◌, ◌++◌, ◌∷◌, [], length, map, flat_map, OnOk, codes, decimal};
 ghost use Rattle.event_rules.specs.Rows.{row};
 ghost use Rattle.bound_table.specs.Words.{spelling};
-ghost use Rattle.history_rules.specs.Report.{device_word, meter_word, second_word, or_none, end_word, sort_word, outage_row, line_row, unexplained_by, index_row};
-ghost use Rattle.report_text.specs.Rows.{IsWritable, IsOutageOf, IsLineOf, last_word, first_rows, contradicted, value_text};
+ghost use Rattle.history_rules.specs.Report.{device_word, outage_row, line_row, unexplained_by, index_row};
+ghost use Rattle.report_text.specs.Rows.{IsWritable, IsOutageOf, IsLineOf, last_word, first_rows, contradicted};
 
+use crate::words::{name_of, name_or_none, second_of, second_or, second_text, sort_of, value_of};
 use bound_table::{ReportWord, text_of};
 use evidence::Pull;
 use grid_model::{DeviceId, Grid, Line, MeterId, Outage, Stamp};
-use history_rules::stamp_text_is_read;
-use line_text::{Fraction, put_decimal, put_fraction, put_stamp, stamp_has_one_spelling};
+use itoa::Buffer;
+use line_text::Fraction;
 use std::alloc::{AllocError, Global};
-
-// The first word of a row.
-fn add_first(text: &mut Vec<u8>, word: ReportWord) -> Result<(), AllocError>
-    ensures { OnOk result (text.new.items ≡ text.old.items ++ spelling word) }
-{
-    text.extend_from_slice(text_of(word))
-}
 
 // A comma and a word.
 fn add_word(text: &mut Vec<u8>, word: &[u8]) -> Result<(), AllocError>
@@ -27,87 +21,24 @@ fn add_word(text: &mut Vec<u8>, word: &[u8]) -> Result<(), AllocError>
     text.extend_from_slice(word)
 }
 
-// A comma and a number.
-fn add_number(text: &mut Vec<u8>, number: u64) -> Result<(), AllocError>
-    ensures { OnOk result (text.new.items ≡ text.old.items ++ 44 ∷ decimal number) }
+// Words, each behind a comma.
+fn add_words(text: &mut Vec<u8>, words: &[&[u8]]) -> Result<(), AllocError>
+    ensures { OnOk result (text.new.items ≡ text.old.items ++ flat_map (λ w. 44 ∷ w.now) words.now) }
 {
-    text.push(b',')?;
-    put_decimal(text, number)
-}
-
-// The end of a row.
-fn end_row(text: &mut Vec<u8>) -> Result<(), AllocError>
-    ensures { OnOk result (text.new.items ≡ text.old.items ++ 10 ∷ []) }
-{
-    text.push(b'\n')?;
+    for word in words {
+        add_word(text, word)?;
+    }
     Ok(())
 }
 
-// The text of a second.
-fn second_text(at: Stamp) -> [u8; 20]
-    requires { IsWritable at }
-    ensures { result ≡ second_word at }
+// A row of a first word and others.
+fn add_row(text: &mut Vec<u8>, first: ReportWord, others: &[&[u8]]) -> Result<(), AllocError>
+    ensures { OnOk result (text.new.items ≡ text.old.items ++ row (spelling first ∷ map (λ w. w.now) others.now)) }
 {
-    stamp_text_is_read();
-    stamp_has_one_spelling();
-    put_stamp(at)
-}
-
-// A comma and a second.
-fn add_second(text: &mut Vec<u8>, at: Stamp) -> Result<(), AllocError>
-    requires { IsWritable at }
-    ensures { OnOk result (text.new.items ≡ text.old.items ++ 44 ∷ second_word at) }
-{
-    add_word(text, &second_text(at))
-}
-
-// A comma and a second, where there is one.
-fn add_since(text: &mut Vec<u8>, since: Option<Stamp>) -> Result<(), AllocError>
-    requires { IfSome since IsWritable }
-    ensures { OnOk result (text.new.items ≡ text.old.items ++ 44 ∷ or_none second_word since) }
-{
-    let Some(at) = since else {
-        return add_word(text, b"none");
-    };
-    add_second(text, at)
-}
-
-// A comma and the second of an end, where there is one.
-fn add_end(text: &mut Vec<u8>, end: Option<Stamp>) -> Result<(), AllocError>
-    requires { IfSome end IsWritable }
-    ensures { OnOk result (text.new.items ≡ text.old.items ++ 44 ∷ end_word end) }
-{
-    match end {
-        Some(at) => add_second(text, at),
-        None => add_word(text, b"open"),
-    }
-}
-
-// A comma and the name of a device.
-fn add_device(text: &mut Vec<u8>, grid: &Grid, device: DeviceId) -> Result<(), AllocError>
-    requires { device.0 < length grid.now.devices }
-    ensures { OnOk result (text.new.items ≡ text.old.items ++ 44 ∷ device_word grid.now device.0) }
-{
-    add_word(text, grid.device(device).name.text())
-}
-
-// A comma and the name of a device, where there is one.
-fn add_above(text: &mut Vec<u8>, grid: &Grid, above: Option<DeviceId>) -> Result<(), AllocError>
-    requires { IfSome above (λ d. d.0 < length grid.now.devices) }
-    ensures { OnOk result (text.new.items ≡ text.old.items ++ 44 ∷ or_none (λ d. device_word grid.now d.0) above) }
-{
-    match above {
-        Some(device) => add_device(text, grid, device),
-        None => add_word(text, b"none"),
-    }
-}
-
-// A comma and the name of a meter.
-fn add_meter(text: &mut Vec<u8>, grid: &Grid, meter: MeterId) -> Result<(), AllocError>
-    requires { meter.0 < length grid.now.meters }
-    ensures { OnOk result (text.new.items ≡ text.old.items ++ 44 ∷ meter_word grid.now meter.0) }
-{
-    add_word(text, grid.meter(meter).name.text())
+    text.extend_from_slice(text_of(first))?;
+    add_words(text, others)?;
+    text.push(b'\n')?;
+    Ok(())
 }
 
 // report,SECOND
@@ -115,28 +46,27 @@ fn add_report(text: &mut Vec<u8>, applied: u64, now: Stamp) -> Result<(), AllocE
     requires { IsWritable now }
     ensures { OnOk result (text.new.items ≡ text.old.items ++ row (codes "report" ∷ last_word applied now ∷ [])) }
 {
-    add_first(text, ReportWord::Report)?;
-    add_since(text, (applied != 0).then_some(now))?;
-    end_row(text)
+    let last = second_of((applied != 0).then_some(now));
+    add_row(text, ReportWord::Report, &[second_or(&last, b"none")])
 }
 
 // counts,EVENTS,REFUSED
 fn add_counts(text: &mut Vec<u8>, applied: u64, refused: u64) -> Result<(), AllocError>
     ensures { OnOk result (text.new.items ≡ text.old.items ++ row (codes "counts" ∷ decimal applied ∷ decimal refused ∷ [])) }
 {
-    add_first(text, ReportWord::Counts)?;
-    add_number(text, applied)?;
-    add_number(text, refused)?;
-    end_row(text)
+    let mut first = Buffer::new();
+    let mut second = Buffer::new();
+    let applied = first.format(applied).as_bytes();
+    let refused = second.format(refused).as_bytes();
+    add_row(text, ReportWord::Counts, &[applied, refused])
 }
 
 // total,COST
 fn add_total(text: &mut Vec<u8>, total: u64) -> Result<(), AllocError>
     ensures { OnOk result (text.new.items ≡ text.old.items ++ row (codes "total" ∷ decimal total ∷ [])) }
 {
-    add_first(text, ReportWord::Total)?;
-    add_number(text, total)?;
-    end_row(text)
+    let mut digits = Buffer::new();
+    add_row(text, ReportWord::Total, &[digits.format(total).as_bytes()])
 }
 
 /// The rows `report,SECOND` with the second of the last event or `none`, `counts,EVENTS,REFUSED` and
@@ -156,26 +86,27 @@ pub(crate) fn add_first_rows(
     add_total(text, total)
 }
 
-// The word of an outage inside another, or of any other.
-fn sort_of(nested: bool) -> &'static [u8]
-    ensures { result.now ≡ sort_word nested }
-{
-    if nested { b"nested" } else { b"plain" }
-}
-
 /// outage,DEVICE,ABOVE,METERS,CUSTOMERS,SINCE,SORT
 pub(crate) fn add_outage(text: &mut Vec<u8>, grid: &Grid, outage: &Outage) -> Result<(), AllocError>
     requires { IsOutageOf grid.now outage.now }
     ensures { OnOk result (text.new.items ≡ text.old.items ++ outage_row grid.now outage.now) }
 {
-    add_first(text, ReportWord::Outage)?;
-    add_device(text, grid, outage.device)?;
-    add_above(text, grid, outage.above)?;
-    add_number(text, u64::from(outage.meters))?;
-    add_number(text, outage.customers)?;
-    add_since(text, outage.since)?;
-    add_word(text, sort_of(outage.nested))?;
-    end_row(text)
+    let mut meters = Buffer::new();
+    let mut customers = Buffer::new();
+    let device = grid.device(outage.device);
+    let above = name_of(grid, outage.above);
+    let since = second_of(outage.since);
+    let meters = meters.format(outage.meters).as_bytes();
+    let customers = customers.format(outage.customers).as_bytes();
+    let device = device.name.text();
+    let above = name_or_none(&above);
+    let since = second_or(&since, b"none");
+    let sort = sort_of(outage.nested);
+    add_row(
+        text,
+        ReportWord::Outage,
+        &[device, above, meters, customers, since, sort],
+    )
 }
 
 // unexplained,METER,WORD,WEIGHT where there is a weight
@@ -192,11 +123,14 @@ fn add_weight(
     if weight == 0 {
         return Ok(());
     }
-    add_first(text, ReportWord::Unexplained)?;
-    add_meter(text, grid, meter)?;
-    add_word(text, word)?;
-    add_number(text, weight)?;
-    end_row(text)
+    let mut digits = Buffer::new();
+    let meter = grid.meter(meter);
+    let weight = digits.format(weight).as_bytes();
+    add_row(
+        text,
+        ReportWord::Unexplained,
+        &[meter.name.text(), word, weight],
+    )
 }
 
 /// What the reports of a meter weigh that its judgement contradicts: of one that is judged dark its
@@ -223,11 +157,11 @@ pub(crate) fn add_line(text: &mut Vec<u8>, grid: &Grid, line: &Line) -> Result<(
     requires { IsLineOf grid.now line.now }
     ensures { OnOk result (text.new.items ≡ text.old.items ++ line_row grid.now line.now) }
 {
-    add_first(text, ReportWord::Line)?;
-    add_meter(text, grid, line.meter)?;
-    add_second(text, line.start)?;
-    add_end(text, line.end)?;
-    end_row(text)
+    let meter = grid.meter(line.meter);
+    let start = second_text(line.start);
+    let end = second_of(line.end);
+    let words = [meter.name.text(), &start, second_or(&end, b"open")];
+    add_row(text, ReportWord::Line, &words)
 }
 
 /// crew,K,DEVICE
@@ -240,20 +174,10 @@ pub(crate) fn add_crew(
     requires { device.0 < length grid.now.devices }
     ensures { OnOk result (text.new.items ≡ text.old.items ++ row (codes "crew" ∷ decimal number ∷ device_word grid.now device.0 ∷ [])) }
 {
-    add_first(text, ReportWord::Crew)?;
-    add_number(text, number)?;
-    add_device(text, grid, device)?;
-    end_row(text)
-}
-
-// A comma and the value of an index, if it has one.
-fn add_value(alloc: Global, text: &mut Vec<u8>, value: Option<Fraction>) -> Result<(), AllocError>
-    ensures { OnOk result (text.new.items ≡ text.old.items ++ 44 ∷ value_text value) }
-{
-    match value {
-        Some(fraction) => add_word(text, &put_fraction(alloc, fraction)?),
-        None => add_word(text, b"none"),
-    }
+    let mut digits = Buffer::new();
+    let number = digits.format(number).as_bytes();
+    let device = grid.device(device);
+    add_row(text, ReportWord::Crew, &[number, device.name.text()])
 }
 
 /// index,NAME,VALUE
@@ -265,16 +189,13 @@ pub(crate) fn add_index(
 ) -> Result<(), AllocError>
     ensures { OnOk result (text.new.items ≡ text.old.items ++ index_row name.now value) }
 {
-    add_first(text, ReportWord::Index)?;
-    add_word(text, name)?;
-    add_value(alloc, text, value)?;
-    end_row(text)
+    let value = value_of(alloc, value)?;
+    add_row(text, ReportWord::Index, &[name, value.as_slice()])
 }
 
 /// end
 pub(crate) fn add_last_row(text: &mut Vec<u8>) -> Result<(), AllocError>
     ensures { OnOk result (text.new.items ≡ text.old.items ++ row (codes "end" ∷ [])) }
 {
-    add_first(text, ReportWord::End)?;
-    end_row(text)
+    add_row(text, ReportWord::End, &[])
 }

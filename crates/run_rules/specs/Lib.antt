@@ -1,6 +1,7 @@
 pub mod Faults
 pub mod Number
 pub mod Files
+pub mod Reading
 pub mod Told
 pub mod Trial
 pub mod Run

@@ -13,7 +13,7 @@ use Rattle.bound_checker.specs.declared.rules.Verdict.{Verdict}
 use Rattle.bound_checker.specs.declared.rules.Verdict.TheVariants as verdict
 use Rattle.outage_ports.specs.Bytes.{Files, AppendsPrefix}
 use Rattle.command_words.specs.Forms.{Places, Command, Replay, Check, Trial}
-use Rattle.whole_file.specs.Whole.{FailsAt, StopsUnread}
+use Rattle.run_rules.specs.Reading.{FailsAt, StopsUnread}
 use Rattle.run_rules.specs.Files.{most_network, most_report, IsTooLong, SaysNetwork, RefusesNetworkAt, HasEvents, HasTooManyLines, HasTooManyBytes, SaysBounds, RefusesReportAt}
 use Rattle.run_rules.specs.Trial.{MakesRefused, CompletesTrial, IsSilentTrial}
 use Rattle.run_rules.specs.Told.{last_problem, output, entries_taken, text_due, verdict_on, verdict_text}

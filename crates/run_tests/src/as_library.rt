@@ -1,19 +1,40 @@
 //! The engine used as a library: which devices explain a meter's last gasp.
-ghost use Rattle.std.specs.Prelude.{◌≡◌, ◌≤◌, ◌<◌, length};
+ghost use Rattle.std.specs.Prelude.{◌≡◌, ◌≤◌, ◌<◌, ◌^◌, length};
 ghost use Rattle.history_rules.specs.StampTexts.{last_second};
 
-use grid_model::{DeviceId, Event, Name, Stamp, What};
+use grid_model::{DeviceId, Event, MeterId, Name, Stamp, What};
 use grid_reader::{GridFault, read_grid};
 use outage_engine::Engine;
-use std::alloc::Global;
+use std::alloc::{AllocError, Global};
 use std::marker::Brand;
 use std::sync::ledger::{Blank, Ledger};
 use std::test::Fail;
 use subtree_costs::Steps;
 
-// The devices that are taken for opened after a meter's last gasp as the first event of a network,
-// by number: none where the network has no meter of the name. The rows that are read and written are
-// counted.
+// The devices that are taken for opened after a meter's last gasp. The rows that are read and written
+// are counted.
+fn opened_by_gasp<L: Ledger>(
+    alloc: Global,
+    engine: &mut Engine,
+    meter: MeterId,
+    time: Stamp,
+    blank: Blank,
+) -> Result<Vec<DeviceId>, AllocError>
+    requires name { blank.name ≡ L.name }
+    requires parts { blank.parts ≡ L.parts }
+    requires some { 0 < blank.parts }
+    requires meter { meter.0 < length engine.old.grid.meters }
+    requires room { engine.old.field.applied < 2 ^ 32 }
+    requires range { time.0 ≤ last_second }
+{
+    engine.reserve()?;
+    let what = What::Gasp(meter);
+    let _ = engine.apply(Event { time, what }, &mut Steps::<L>::new(blank));
+    engine.judged().opened_list(alloc)
+}
+
+// The same as the first event of a network, by the meter's name: none where the network has no such
+// meter.
 fn explain_gasp<L: Ledger>(
     alloc: Global,
     network: &[u8],
@@ -28,14 +49,11 @@ fn explain_gasp<L: Ledger>(
     requires range { time.0 ≤ last_second }
 {
     let grid = read_grid(alloc, network)?;
-    let mut engine = Engine::new(alloc, grid)?;
-    let Some(meter) = engine.grid().find_meter(name) else {
+    let Some(meter) = grid.find_meter(name) else {
         return Ok(None);
     };
-    engine.reserve()?;
-    let what = What::Gasp(meter);
-    let _ = engine.apply(Event { time, what }, &mut Steps::<L>::new(blank));
-    Ok(Some(engine.judged().opened_list(alloc)?))
+    let mut engine = Engine::new(alloc, grid)?;
+    Ok(Some(opened_by_gasp::<L>(alloc, &mut engine, meter, time, blank)?))
 }
 
 const NETWORK: &str = "source,S

@@ -4,6 +4,8 @@
 #[cfg(test)]
 mod crew_list_calls;
 #[cfg(test)]
+mod diagnosis_calls;
+#[cfg(test)]
 mod due_queue_calls;
 #[cfg(test)]
 mod evidence_calls;
@@ -15,8 +17,6 @@ mod grid_maker_calls;
 mod grid_model_calls;
 #[cfg(test)]
 mod interruption_ledger_calls;
-#[cfg(test)]
-mod judged_calls;
 #[cfg(test)]
 mod networks;
 #[cfg(test)]

@@ -1,24 +1,41 @@
 //! Lines of events, each read by itself.
-use crate::networks::feeder;
 use event_reader::{ReadRefusal, read_event};
 use grid_model::{DeviceId, Event, MeterId, Stamp, Want, What};
+use grid_reader::read_grid;
 
-const AT: Stamp = Stamp(1_709_287_200);
+// From the source S a breaker leads to A, and from there a fuse to C, where a meter stands.
+const FEEDER: &str = "source,S
+device,B1,breaker,S,A,closed,-
+device,F1,fuse,A,C,closed,-
+meter,M1,C,10
+";
+
+// The event of ten o'clock on 2024-03-01.
+fn event(what: What) -> Result<Option<Event>, ReadRefusal> {
+    let time = Stamp(1_709_287_200);
+    Ok(Some(Event { time, what }))
+}
 
 #[test]
 fn reads_lines(rt: HostRuntime) {
-    let grid = feeder(&rt, rt.alloc());
-    for (line, what) in [
-        ("2024-03-01T10:00:00Z,call,M1", What::Call(MeterId(0))),
+    let grid = read_grid(rt.alloc(), FEEDER.as_bytes())
+        .ok()
+        .expect(&rt, "a network");
+    for (line, want) in [
+        (
+            "2024-03-01T10:00:00Z,call,M1",
+            event(What::Call(MeterId(0))),
+        ),
         (
             "2024-03-01T10:00:00Z,open,F1",
-            What::Order(DeviceId(1), Want::Opened),
+            event(What::Order(DeviceId(1), Want::Opened)),
         ),
+        ("# a note", Ok(None)),
+        ("now,shout", Err(ReadRefusal::BadWord)),
     ] {
-        let event = Event { time: AT, what };
-        let read = read_event(rt.alloc(), &grid, line.as_bytes());
-        assert!(rt; read == Ok(Some(event)), "{line}");
+        assert!(rt;
+            read_event(rt.alloc(), &grid, line.as_bytes()) == want,
+            "{line}"
+        );
     }
-    assert!(rt; read_event(rt.alloc(), &grid, b"# a note") == Ok(None));
-    assert!(rt; read_event(rt.alloc(), &grid, b"now,shout") == Err(ReadRefusal::BadWord));
 }

@@ -1,9 +1,10 @@
 -- The end of the text.
-use Rattle.std.proofs.Common.{[], ◌++◌, sym, ◌∙◌, subst, arith}
+use Rattle.std.proofs.Common.{[], refl, sym, ◌∙◌, subst, arith}
 use Rattle.line_text.specs.Cutting.{ended_from, part_from, last_line}
 use Rattle.event_run.specs.Pieces.{WritesPart}
 use Rattle.event_run.proofs.PieceLines.{lines_are, last_few}
 use Rattle.event_run.proofs.PutLines.{at_done, done}
+use Rattle.event_run.proofs.Told.{memory_is_no_write, goes_still}
 use Rattle.event_run.proofs.EventsRead.{end_leads, none_taken}
 use Rattle.event_run.proofs.run.Run.end.Goals as goal
 
@@ -23,14 +24,20 @@ take_lines-requires-clause-left g c =
 
 -- memory ran out before a last line was taken
 pub returns-then-is_err-clause-leads : goal.returns-then-is_err-clause-leads
-returns-then-is_err-clause-leads g c = λ bytes before has.
-    subst (λ ls. WritesPart ls before (g.K.Sink.written c.args.out.now) c.args.engine.now.grid) (sym (lines_are c.lines_from_parts.ensures bytes))
-    (none_taken (ended_from [] bytes) (last_line (part_from [] bytes)) before (g.K.Sink.written c.args.out.now) c.args.engine.now.grid c.args.self.now.taken c.args.engine.now has.lines)
+returns-then-is_err-clause-leads g c = λ bytes before p has.
+    subst (λ ls. WritesPart ls before (g.K.Sink.written c.args.out.now) p) (sym (lines_are c.lines_from_parts.ensures bytes))
+    (none_taken (ended_from [] bytes) (last_line (part_from [] bytes)) before (g.K.Sink.written c.args.out.now) p c.args.self.now.taken c.args.engine.now has.lines)
+
+pub returns-then-is_err-clause-goes : goal.returns-then-is_err-clause-goes
+returns-then-is_err-clause-goes g c = goes_still c.args.engine.now c.args.engine.now (g.K.Sink.faults c.args.out.now) _ (record { grid = refl; engine = (_, c.requires.read.3.lines.has.engine) }) (λ e. memory_is_no_write e)
 
 pub returns-clause-leads : goal.returns-clause-leads
-returns-clause-leads g c = λ bytes before has.
+returns-clause-leads g c = λ bytes before p has.
     let part = part_from [] bytes in
     let ok = done c.take_end.result (sym c.is_err.ensures.value ∙ c.if-is_err.false) in
     let left = c.reader-lines.ensures.left (last_line part) (at_done c.take_end.result _ c.take_end.ensures.held ok part [] has.part c.clear.ensures) in
-    end_leads c.lines_from_parts.ensures bytes before (g.K.Sink.written c.take_lines.new.out) c.args.engine.now.grid c.take_lines.new.self c.take_lines.new.engine c.take_lines.result
-    (c.take_lines.ensures.leads (ended_from [] bytes) (last_line part) before left has.lines)
+    end_leads c.lines_from_parts.ensures bytes before (g.K.Sink.written c.take_lines.new.out) p c.take_lines.new.self c.take_lines.new.engine c.take_lines.result
+    (c.take_lines.ensures.leads (ended_from [] bytes) (last_line part) before p left has.lines)
+
+pub returns-clause-goes : goal.returns-clause-goes
+returns-clause-goes g c = c.take_lines.ensures.goes

@@ -1,62 +1,81 @@
 -- What was read of one more line.
-use Rattle.std.proofs.Common.{◌≡◌, true, false, length, Ok, Err, Some, None, rules, refl, sym, ap, ◌∙◌, subst, arith, append-nil, []}
-use Rattle.std.proofs.lemmas.Bool.{false_from_ne_true}
-use Rattle.event_rules.specs.Lines.{is_skipped}
-use Rattle.event_rules.specs.EventLines.{IsEvent, IsRefused}
-use Rattle.outage_engine.specs.Engined.{IsEngineAfter}
-use Rattle.history_rules.specs.Posed.{refusal_of}
-use Rattle.history_rules.specs.Run.{Skips, Refuses, Unread, outcome_by, history_in}
-use Rattle.event_run.proofs.TakenLines.{outcome_is, skipped_outcome, joined_is, counted_skipped, counted_one, events_few, taken_more}
+use Rattle.std.proofs.Common.{◌≡◌, ◌<◌, ◌+◌, ◌≤◌, ℕ, Fits, w32, refl, ap, ◌∙◌, subst, arith, Option, Some, None, Result, Ok, Err}
+use Rattle.std.specs.Prelude.{IfOk, IfSome}
+use Rattle.grid_model.specs.declared.history.Event.{Event}
+use Rattle.event_rules.specs.declared.read_rule.ReadRule.{ReadRule}
+use Rattle.event_rules.specs.declared.read_rule.ReadRule.TheVariants as rules
+use Rattle.event_reader.specs.declared.refusal.ReadRefusal.{ReadRefusal}
+use Rattle.event_reader.specs.declared.refusal.ReadRefusal.TheVariants as refusal
+use Rattle.event_reader.specs.Refusals.{refusal_by}
+use Rattle.event_run.proofs.TakenLines.{stays_engine, skipped_next, event_next, refused_next, in_any, applied_few}
 use Rattle.event_run.proofs.EventsOfGrid.{event_known}
 use Rattle.event_run.proofs.taken.Taken.take_read.Goals as goal
 
-pub take_event-requires-clause-of_grid : goal.take_event-requires-clause-of_grid
-take_event-requires-clause-of_grid c =
-    let line = c.requires.read.0 in
-    event_known c.args.engine.now.grid line c.in-Ok-Some.event (let read : c.args.read ≡ Ok (Some c.in-Ok-Some.event) = search rules in c.requires.read.1.event c.in-Ok-Some.event read)
+fits_more : (n : ℕ) → n < 4294967295 → Fits w32 (n + 1)
+fits_more n few = omega arith
 
-pub take_event-requires-clause-applied : goal.take_event-requires-clause-applied
-take_event-requires-clause-applied c =
-    let lines = c.requires.taken.0 in
-    let has = c.requires.taken.2 in
-    let few = has.few in
-    let count = has.engine.field.count in
-    omega (arith, events_few c.args.engine.now.grid [] lines)
+in_range : (read : Result (Option Event) ReadRefusal) (event : Event) → read ≡ Ok (Some event) → IfOk read (λ found. IfSome found (λ e. e.time.0 ≤ 253402300799)) → event.time.0 ≤ 253402300799
+in_range read event is bound = subst (λ (r : Result (Option Event) ReadRefusal). IfOk r (λ found. IfSome found (λ e. e.time.0 ≤ 253402300799))) is bound
 
-pub returns-in-Ok-None-clause-taken : goal.returns-in-Ok-None-clause-taken
-returns-in-Ok-None-clause-taken c = λ lines line written reading has.
-    let skipped : is_skipped line ≡ true = (let read : c.args.read ≡ Ok None = search rules in reading.skipped.0 read) in
-    let few = has.few in
-    let counts = has.counts in
-    let none = ap length (counted_skipped line skipped) in
-    taken_more c.run_of_parts.ensures lines line written c.args.self.now _ c.args.engine.now c.args.engine.now Skips has refl
-    (skipped_outcome c.args.engine.now.grid (history_in c.args.engine.now.grid [] lines) line skipped) refl (omega arith) (omega arith) (sym (append-nil c.args.self.now.entries.bytes.items)) has.engine
+-- what is read is no want of memory, and neither is a rule
+event_kept : (read : Result (Option Event) ReadRefusal) (found : Option Event) → read ≡ Ok found → read ≡ Err refusal.Memory → ⊥
+event_kept read found is e = cc
 
-pub returns-in_ok-take_event-in-Ok-Some-clause-taken : goal.returns-in_ok-take_event-in-Ok-Some-clause-taken
-returns-in_ok-take_event-in-Ok-Some-clause-taken c = λ lines line written reading has.
-    let g = c.args.engine.now.grid in
-    let event = c.in-Ok-Some.event in
-    let before = history_in g [] lines in
-    let read : c.args.read ≡ Ok (Some event) = search rules in
-    let says = reading.event event read in
-    let counts : is_skipped line ≡ false = false_from_ne_true (is_skipped line) (λ t. let none = reading.skipped.1 t in cc) in
-    let one = ap length (counted_one line counts) in
-    let facts = c.in_ok-take_event-in-Ok-Some.ensures in
-    let more = facts.counted in
-    taken_more c.run_of_parts.ensures lines line written c.args.self.now c.take_event.new.self c.args.engine.now c.take_event.new.engine (outcome_by event (refusal_of g before event)) has
-    facts.grid (outcome_is g before line (IsEvent event) says) facts.number (omega arith) facts.few (facts.printed before has.engine)
-    (subst (λ h. IsEngineAfter h c.take_event.new.engine) (sym (joined_is before event (refusal_of g before event))) (facts.after before has.engine))
+said : (read : Result (Option Event) ReadRefusal) (rule : ReadRule) → read ≡ Err (refusal_by rule) → read ≡ Err refusal.Memory → ⊥
+said read rules.TooLong is e = cc
+said read rules.BadFields is e = cc
+said read rules.BadWord is e = cc
+said read rules.BadTime is e = cc
+said read rules.BadName is e = cc
+said read rules.UnknownMeter is e = cc
+said read rules.UnknownDevice is e = cc
 
-pub returns-in_ok-take_refused-in-Some-clause-taken : goal.returns-in_ok-take_refused-in-Some-clause-taken
-returns-in_ok-take_refused-in-Some-clause-taken c = λ lines line written reading has.
-    let g = c.args.engine.now.grid in
-    let before = history_in g [] lines in
-    let rule = c.in-Some.rule in
-    let refusal = c.in-Some.ensures.rule in
-    let says = reading.refused rule (c.in-Err.is ∙ ap Err (c.in-Err.refusal-is ∙ refusal)) in
-    let counts : is_skipped line ≡ false = false_from_ne_true (is_skipped line) (λ t. let none = reading.skipped.1 t in cc) in
-    let one = ap length (counted_one line counts) in
-    let facts = c.in_ok-take_refused-in-Some.ensures in
-    let more = facts.counted in
-    taken_more c.run_of_parts.ensures lines line written c.args.self.now c.take_refused.new.self c.args.engine.now c.args.engine.now (Refuses (Unread rule)) has
-    refl (outcome_is g before line (IsRefused rule) says) facts.number (omega arith) facts.few facts.printed has.engine
+pub overflow_add-self : goal.overflow_add-self
+overflow_add-self c = fits_more c.args.self.now.number c.requires.room
+
+pub take_event-requires : goal.take_event-requires
+take_event-requires c =
+    let is = c.in-Ok-Some.is ∙ ap Ok (rw c.in-Ok-Some.is at c.in-Ok-Some.field-0-is) in record {
+      engine = (stays_engine c.args.self.now c.args.engine.now c.requires.taken).engine;
+      of_grid = event_known c.args.engine.now.grid c.requires.read.0 c.in-Ok-Some.event (c.requires.read.1.event c.in-Ok-Some.event is);
+      range = in_range c.args.read c.in-Ok-Some.event is c.requires.read.1.bound;
+      applied = applied_few c.args.self.now c.args.engine.now c.requires.taken;
+      room = c.requires.room;
+    }
+
+pub take_refused-requires : goal.take_refused-requires
+take_refused-requires c = record { room = c.requires.room }
+
+pub returns-in-Ok-None : goal.returns-in-Ok-None
+returns-in-Ok-None c =
+    let is = c.in-Ok-None.is ∙ ap Ok (rw c.in-Ok-None.is at c.in-Ok-None.field-0-is) in record {
+      takes = λ lines line written reading has. skipped_next c.run_of_parts.ensures lines line written c.args.self.now _ c.args.engine.now c.args.read reading has is refl refl refl;
+      memory = event_kept c.args.read None is;
+      stays = stays_engine c.args.self.now c.args.engine.now c.requires.taken;
+    }
+
+pub returns-in-Ok-Some : goal.returns-in-Ok-Some
+returns-in-Ok-Some c =
+    let is = c.in-Ok-Some.is ∙ ap Ok (rw c.in-Ok-Some.is at c.in-Ok-Some.field-0-is) in record {
+      takes = λ lines line written reading has.
+          event_next c.run_of_parts.ensures lines line written c.args.self.now c.take_event.new.self c.args.engine.now c.args.read reading has c.take_event.new.engine c.in-Ok-Some.event c.take_event.result is
+          c.take_event.ensures.stays.grid c.take_event.ensures.takes;
+      memory = in_any c.take_event.result _ (event_kept c.args.read (Some c.in-Ok-Some.event) is);
+      stays = c.take_event.ensures.stays;
+    }
+
+pub returns-in-Some : goal.returns-in-Some
+returns-in-Some c =
+    let is = c.in-Err.is ∙ ap Err (c.in-Err.refusal-is ∙ c.in-Some.ensures.rule) in record {
+      takes = λ lines line written reading has.
+          refused_next c.run_of_parts.ensures lines line written c.args.self.now c.take_refused.new.self c.args.engine.now c.args.read reading has c.in-Some.rule c.take_refused.result is c.take_refused.ensures;
+      memory = in_any c.take_refused.result _ (said c.args.read c.in-Some.rule is);
+      stays = stays_engine c.args.self.now c.args.engine.now c.requires.taken;
+    }
+
+pub returns-in-None : goal.returns-in-None
+returns-in-None c = record {
+  takes = λ lines line written reading has. tt;
+  memory = tt;
+  stays = stays_engine c.args.self.now c.args.engine.now c.requires.taken;
+}
