@@ -28,3 +28,4 @@ pub mod Telling
 pub mod Totals
 pub mod Turning
 pub mod Working
+mod WithoutLemmas

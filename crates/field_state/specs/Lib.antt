@@ -7,3 +7,4 @@ pub mod PlacesInside
 pub mod Repairs
 pub mod StateInside
 pub mod Weighed
+pub mod Without

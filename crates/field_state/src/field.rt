@@ -1,9 +1,10 @@
 //! The state of the field, and what is read of it.
 use crate::state::State;
 use evidence::{Evidence, Pull};
-use grid_model::{DeviceId, Mark, MeterId, NodeId, Stamp};
+use grid_model::{DeviceId, Grid, Mark, MeterId, NodeId, Stamp};
 use std::marker::Model;
-use subtree_costs::CostForest;
+use std::sync::ledger::Ledger;
+use subtree_costs::{CostForest, Steps};
 
 /// The state of a network after events: the clock and how many events were applied, the least costs
 /// of its parts by the states and marks of the devices and the weights of the reports at each node,
@@ -29,11 +30,17 @@ impl Model for Field {
 }
 
 impl Field {
-    ghost use Rattle.std.specs.Prelude.{◌≡◌, ◌<◌, List, length, false, slice_index_or};
+    ghost use Rattle.std.specs.Prelude.{◌≡◌, ◌<◌, ◌≤◌, ◌+◌, ◌*◌, ℕ, List, Some, length, true, false, slice_index_or};
     ghost use Rattle.grid_model.specs.Parts.{Parts};
     ghost use Rattle.grid_model.specs.Problem.{mark_at};
     ghost use Rattle.grid_model.specs.declared.history.Event.{Event};
-    ghost use Rattle.field_state.specs.Fielded.{IsFieldAfter, pull_after};
+    ghost use Rattle.grid_model.specs.declared.history.Mark.TheVariants.{Nothing};
+    ghost use Rattle.history_rules.specs.Posed.{problem_after};
+    ghost use Rattle.radial_forest.specs.Traversed.{parent_in};
+    ghost use Rattle.radial_forest.specs.Spreading.{switched};
+    ghost use Rattle.subtree_costs.specs.Reach.{IsReach};
+    ghost use Rattle.field_state.specs.Fielded.{IsField, IsFieldAfter, pull_after};
+    ghost use Rattle.field_state.specs.Without.{IsLeastWithout};
 
     /// The time of the last event, and 0 before the first.
     pub fn now(&self) -> Stamp
@@ -95,5 +102,28 @@ impl Field {
         ensures { result.now ≡ self.now.evidence }
     {
         &self.state.evidence
+    }
+
+    /// The least cost over the feasible sets that leave out a closed device without a mark. Takes no
+    /// memory, and leaves all as it was.
+    pub fn least_without<L: Ledger>(
+        &mut self,
+        grid: &Grid,
+        d: DeviceId,
+        steps: &mut Steps<L>,
+    ) -> u64
+        requires field { IsField grid.now self.old }
+        requires device { d.0 < length grid.now.devices }
+        requires closed { slice_index_or self.old.forest.closed d.0 false ≡ true }
+        requires unmarked { mark_at self.old.marks d.0 ≡ Nothing }
+        ensures same { self.new ≡ self.old }
+        ensures least { (h : List Event) → IsFieldAfter grid.now h self.old
+            → IsLeastWithout (problem_after grid.now h) d.0 result }
+        ensures steps { (n r : ℕ) → n < length grid.now.nodes
+            → parent_in self.old.forest.parents n ≡ Some d
+            → IsReach (switched grid.now self.old.forest.closed) n r
+            → steps.new ≤ steps.old + 8 * (r + 1) }
+    {
+        self.state.least_without(grid, d, steps)
     }
 }

@@ -10,6 +10,7 @@ mod laws;
 mod new;
 mod places;
 mod state;
+mod without;
 
 pub use field::Field;
 pub use laws::field_poses;

@@ -16,7 +16,7 @@ use crate::recording::{first_ledger, record_flipped};
 use bound_table::Bounds;
 use diagnosis::{Judged, changes_can_be_settled};
 use field_state::{Field, field_poses};
-use grid_model::{Event, Grid, Refusal, Stamp};
+use grid_model::{DeviceId, Event, Grid, Refusal, Stamp};
 use history_rules::history_is_diagnosed;
 use interruption_ledger::{Ledger, ledger_is_kept};
 use outage_rules::{diagnosis_is_one, one_least_cost};
@@ -94,7 +94,13 @@ fn judge<L: Counter>(
 }
 
 impl Engine {
-    ghost use Rattle.std.specs.Prelude.{◌≡◌, ◌≤◌, ◌<◌, ◌+◌, ◌^◌, ℕ, false, List, [], length, map, Ok, Err, IfOk, OnErr};
+    ghost use Rattle.std.specs.Prelude.{◌≡◌, ◌≤◌, ◌<◌, ◌+◌, ◌*◌, ◌^◌, ℕ, true, false, List, [], length, map, slice_index_or, Some, Ok, Err, IfOk, OnErr};
+    ghost use Rattle.grid_model.specs.Problem.{mark_at};
+    ghost use Rattle.grid_model.specs.declared.history.Mark.TheVariants.{Nothing};
+    ghost use Rattle.radial_forest.specs.Traversed.{parent_in};
+    ghost use Rattle.radial_forest.specs.Spreading.{switched};
+    ghost use Rattle.subtree_costs.specs.Reach.{IsReach};
+    ghost use Rattle.field_state.specs.Without.{IsLeastWithout};
     ghost use Rattle.grid_model.specs.declared.history.Event.{Event};
     ghost use Rattle.grid_model.specs.declared.history.Refusal.{Refusal};
     ghost use Rattle.history_rules.specs.StampTexts.{last_second};
@@ -202,6 +208,23 @@ impl Engine {
             cost_before,
             cost_after: least_cost(&self.field),
         })
+    }
+
+    /// The least cost over the feasible sets that leave out a closed device without a mark: how well
+    /// the reports are explained without it. Takes no memory, and leaves all as it was.
+    pub fn least_without<L: Counter>(&mut self, d: DeviceId, steps: &mut Steps<L>) -> u64
+        requires device { d.0 < length self.old.grid.devices }
+        requires closed { slice_index_or self.old.field.forest.closed d.0 false ≡ true }
+        requires unmarked { mark_at self.old.field.marks d.0 ≡ Nothing }
+        ensures same { self.new ≡ self.old }
+        ensures least { (h : List Event) → IsEngineAfter h self.old
+            → IsLeastWithout (problem_after self.old.grid h) d.0 result }
+        ensures steps { (n r : ℕ) → n < length self.old.grid.nodes
+            → parent_in self.old.field.forest.parents n ≡ Some d
+            → IsReach (switched self.old.grid self.old.field.forest.closed) n r
+            → steps.new ≤ steps.old + 8 * (r + 1) }
+    {
+        self.field.least_without(&self.grid, d, steps)
     }
 
     /// The network.

@@ -2,39 +2,17 @@
 ghost use Rattle.std.specs.Prelude.{◌≡◌, ◌≤◌, ◌<◌, ◌^◌, length};
 ghost use Rattle.history_rules.specs.StampTexts.{last_second};
 
-use grid_model::{DeviceId, Event, MeterId, Name, Stamp, What};
+use grid_model::{DeviceId, Event, Grid, MeterId, Name, Stamp, What};
 use grid_reader::{GridFault, read_grid};
 use outage_engine::Engine;
 use std::alloc::{AllocError, Global};
 use std::marker::Brand;
 use std::sync::ledger::{Blank, Ledger};
-use std::test::Fail;
 use subtree_costs::Steps;
 
-// The devices that are taken for opened after a meter's last gasp. The rows that are read and written
-// are counted.
-fn opened_by_gasp<L: Ledger>(
-    alloc: Global,
-    engine: &mut Engine,
-    meter: MeterId,
-    time: Stamp,
-    blank: Blank,
-) -> Result<Vec<DeviceId>, AllocError>
-    requires name { blank.name ≡ L.name }
-    requires parts { blank.parts ≡ L.parts }
-    requires some { 0 < blank.parts }
-    requires meter { meter.0 < length engine.old.grid.meters }
-    requires room { engine.old.field.applied < 2 ^ 32 }
-    requires range { time.0 ≤ last_second }
-{
-    engine.reserve()?;
-    let what = What::Gasp(meter);
-    let _ = engine.apply(Event { time, what }, &mut Steps::<L>::new(blank));
-    engine.judged().opened_list(alloc)
-}
-
-// The same as the first event of a network, by the meter's name: none where the network has no such
-// meter.
+// The devices that are taken for opened after a meter's last gasp as the first event of a network,
+// by number: none where the network has no meter of the name. The rows that are read and written are
+// counted.
 fn explain_gasp<L: Ledger>(
     alloc: Global,
     network: &[u8],
@@ -52,8 +30,42 @@ fn explain_gasp<L: Ledger>(
     let Some(meter) = grid.find_meter(name) else {
         return Ok(None);
     };
+    let mut steps = Steps::<L>::new(blank);
+    let opened = explain_first_gasp(alloc, grid, meter, time, &mut steps)?;
+    Ok(Some(opened))
+}
+
+// The same, where the meter is found.
+fn explain_first_gasp<L: Ledger>(
+    alloc: Global,
+    grid: Grid,
+    meter: MeterId,
+    time: Stamp,
+    steps: &mut Steps<L>,
+) -> Result<Vec<DeviceId>, AllocError>
+    requires meter { meter.0 < length grid.meters }
+    requires range { time.0 ≤ last_second }
+{
     let mut engine = Engine::new(alloc, grid)?;
-    Ok(Some(opened_by_gasp::<L>(alloc, &mut engine, meter, time, blank)?))
+    opened_after_gasp(alloc, &mut engine, meter, time, steps)
+}
+
+// The devices that an engine takes for opened after one more last gasp.
+fn opened_after_gasp<L: Ledger>(
+    alloc: Global,
+    engine: &mut Engine,
+    meter: MeterId,
+    time: Stamp,
+    steps: &mut Steps<L>,
+) -> Result<Vec<DeviceId>, AllocError>
+    requires meter { meter.0 < length engine.old.grid.meters }
+    requires room { engine.old.field.applied < 2 ^ 32 }
+    requires range { time.0 ≤ last_second }
+{
+    engine.reserve()?;
+    let what = What::Gasp(meter);
+    let _ = engine.apply(Event { time, what }, steps);
+    engine.judged().opened_list(alloc)
 }
 
 const NETWORK: &str = "source,S
@@ -63,7 +75,7 @@ meter,M1,C,10
 ";
 
 #[test]
-fn a_fuse_explains_a_gasp(rt: HostRuntime) -> Result<(), Fail> {
+fn a_fuse_explains_a_gasp(rt: HostRuntime) -> Result<(), GridFault> {
     let name = Name::read(b"M1").expect(&rt, "a name");
     let network = NETWORK.as_bytes();
     let opened = explain_gasp::<Brand>(rt.alloc(), network, name, Stamp(5), Blank::new(1))?;

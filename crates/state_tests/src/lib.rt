@@ -21,3 +21,5 @@ mod interruption_ledger_calls;
 mod networks;
 #[cfg(test)]
 mod radial_forest_calls;
+#[cfg(test)]
+mod restore_plan_calls;

@@ -30,31 +30,27 @@ fn writes_to_the_host(rt: HostRuntime) {
     assert_eq!(rt; sink.flush(), Ok(()));
 }
 
-fn file(alloc: Global, name: &str, text: &str) -> Result<(String, Vec<u8>), AllocError> {
-    Ok((
-        String::from_str(alloc, name)?,
-        text.as_bytes().to_vec(alloc)?,
-    ))
+fn files(alloc: Global) -> Result<Vec<(String, Vec<u8>)>, AllocError> {
+    let mut files = Vec::new(alloc);
+    for (name, text) in [("net", "a feeder"), ("net", "another"), ("shut", "")] {
+        let name = String::from_str(alloc, name)?;
+        files.push((name, text.as_bytes().to_vec(alloc)?))?;
+    }
+    Ok(files)
 }
 
-fn mishap(alloc: Global, name: &str, at: Option<u64>) -> Result<Mishap, AllocError> {
-    Ok(Mishap {
-        name: String::from_str(alloc, name)?,
-        at,
-    })
+fn mishaps(alloc: Global) -> Result<Vec<Mishap>, AllocError> {
+    let mut mishaps = Vec::new(alloc);
+    for (name, at) in [("net", Some(5)), ("shut", None)] {
+        let name = String::from_str(alloc, name)?;
+        mishaps.push(Mishap { name, at })?;
+    }
+    Ok(mishaps)
 }
 
 #[test]
-fn reads_from_memory(rt: HostRuntime) -> Result<(), Fail> {
-    let alloc = rt.alloc();
-    let mut files = Vec::new(alloc);
-    files.push(file(alloc, "net", "a feeder")?)?;
-    files.push(file(alloc, "net", "another")?)?;
-    files.push(file(alloc, "shut", "")?)?;
-    let mut mishaps = Vec::new(alloc);
-    mishaps.push(mishap(alloc, "net", Some(5))?)?;
-    mishaps.push(mishap(alloc, "shut", None)?)?;
-    let mut shelf = MemoryShelf::new(files, mishaps, 5);
+fn reads_from_memory(rt: HostRuntime) -> Result<(), AllocError> {
+    let mut shelf = MemoryShelf::new(files(rt.alloc())?, mishaps(rt.alloc())?, 5);
     let mut piece = [b'.'; 8];
     assert!(rt; shelf.start("net").is_ok());
     assert_eq!(rt; shelf.start("shut"), Err(Failed));
@@ -66,12 +62,9 @@ fn reads_from_memory(rt: HostRuntime) -> Result<(), Fail> {
 }
 
 #[test]
-fn writes_to_memory(rt: HostRuntime) -> Result<(), Fail> {
-    let alloc = rt.alloc();
-    let mut failing = Vec::new(alloc);
-    failing.push(1u64)?;
-    failing.push(3)?;
-    let mut sink = MemorySink::new(alloc, failing, 3, 5)?;
+fn writes_to_memory(rt: HostRuntime) -> Result<(), AllocError> {
+    let failing = [1, 3].as_slice().to_vec(rt.alloc())?;
+    let mut sink = MemorySink::new(rt.alloc(), failing, 3, 5)?;
     assert_eq!(rt; sink.write(b"cuts"), Ok(3));
     assert_eq!(rt; sink.write(b"s"), Err(Failed));
     assert_eq!(rt; sink.flush(), Ok(()));

@@ -1,0 +1,2 @@
+pub mod BlamedLemmas
+pub mod MarginsListed
