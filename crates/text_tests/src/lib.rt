@@ -4,6 +4,8 @@
 #[cfg(test)]
 mod event_reader_calls;
 #[cfg(test)]
+mod feed_merge_calls;
+#[cfg(test)]
 mod line_text_calls;
 #[cfg(test)]
 mod outage_ports_calls;

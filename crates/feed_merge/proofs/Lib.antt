@@ -1,0 +1,12 @@
+pub mod FirstFields
+pub mod EntryOrder
+pub mod FirstOfAll
+pub mod FeedKeys
+pub mod HeadSteps
+pub mod FeedQueues
+pub mod TextSteps
+pub mod Ascending
+pub mod OneFeed
+pub mod OnlyOne
+pub mod TextLines
+pub mod GreatestSeconds

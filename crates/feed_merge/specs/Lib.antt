@@ -1,0 +1,4 @@
+pub mod Merging
+pub mod Order
+pub mod Laws
+pub mod Heads
